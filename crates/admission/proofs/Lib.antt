@@ -1,0 +1,4 @@
+pub mod Great
+pub mod Rows
+pub mod Sums
+pub mod Walks

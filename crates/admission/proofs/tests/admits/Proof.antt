@@ -1,0 +1,36 @@
+-- `admits` is rule 7: the last speed carries the sum.
+use borrow.Author.Needs.{needs}
+use mathlib.Core.Path.{ap, _∙_}
+use Prim.Native.Nat.{_*_}
+use lib.Dec.{leb}
+use Rattle.units.specs.declared.Cycles.{Cycles}
+use Rattle.rules.specs.State.{topOf}
+use Rattle.admission.specs.Verdict.{demandOf}
+use Rattle.admission.proofs.tests.admits.Statement.{statement}
+use Rattle.admission.proofs.tests.admits.Tie as tie
+
+demand-requires : tie.Need-demand-requires
+demand-requires c κs = search needs
+
+sub-t8 : tie.Need-sub-t8
+sub-t8 c = search needs
+
+mul-t9 : tie.Need-mul-t9
+mul-t9 c = search needs
+
+shared-slice-read-t11 : tie.Need-shared-slice-read-t11
+shared-slice-read-t11 c = search needs
+
+carries-requires : tie.Need-carries-requires
+carries-requires c κs = search needs
+
+returns : tie.Need-returns
+unfolding demandOf topOf
+returns c =
+    let a = c .before .before .before .before .before .before .args in
+    c .carries .ensures ∙ ap (λ (m : Cycles). leb (m .0) (topOf (a .speeds .now) * a .great .0)) (c .before .before .demand .ensures)
+
+pub admits-spec : {M : Type 1} → statement M
+admits-spec =
+    tie.close
+    (tie.spec demand-requires sub-t8 mul-t9 shared-slice-read-t11 carries-requires returns)

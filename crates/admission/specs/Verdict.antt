@@ -1,0 +1,56 @@
+-- What admission answers for a table, and what its parts answer and ask.
+use Prim.Native.Nat.{ℕ, _+_, _≤_}
+use mathlib.Core.Path.{_≡_}
+use mathlib.Core.Bool.{Bool, true, cond, _&&_}
+use mathlib.Core.List.{List, [], _∷_}
+use lib.Dec.{eqb, leb}
+use lib.ListN.{length}
+use Rattle.units.specs.Units.{ticks, cycles}
+use Rattle.units.specs.declared.Ticks.{Ticks}
+use Rattle.units.specs.declared.Cycles.{Cycles}
+use Rattle.rules.specs.Words.{every}
+use Rattle.rules.specs.Limits.{mostTasks, mostSpeeds, mostPeriod, mostReserve, mostGreat, upToMost}
+use Rattle.rules.specs.Admission.{greatOf, demand}
+use Rattle.rules.specs.Numbers.{sameCount, speedsRise, voltsNeverFall, startNumber}
+use Rattle.admission.specs.declared.Verdict.{Verdict}
+
+-- a table's number, and its great period where the number is 0
+unfoldable pub verdictOf : List ℕ → List ℕ → List ℕ → List ℕ → Verdict
+verdictOf periods reserves speeds volts =
+    let n = startNumber periods reserves speeds volts in
+    record { number = n; great = ticks (cond (eqb n 0) (greatOf periods) 0) }
+
+-- a refusal: the number, and no great period
+abbrev pub refusal : ℕ → Verdict
+refusal n = record { number = n; great = ticks 0 }
+
+-- 5, 6: each number from 1 to the most and at least `gap` above the one before
+unfoldable pub climbsFrom : ℕ → ℕ → ℕ → List ℕ → Bool
+climbsFrom most gap before [] = true
+climbsFrom most gap before (x ∷ xs) = upToMost most x && leb (before + gap) x && climbsFrom most gap x xs
+
+-- the sum of rule 7 as a count of cycles
+unfoldable pub demandOf : List ℕ → List ℕ → Ticks → Cycles
+demandOf periods reserves great = cycles (demand (great .0) periods reserves)
+
+-- what keeps that sum below 2 ^ 64: tests 1, 3, 4 and 7 have passed
+pub record Summable (periods reserves : List ℕ) (great : Ticks) : Type 0 where
+  pub few : length periods ≤ mostTasks
+  pub paired : length reserves ≡ length periods
+  pub periods-allowed : every (upToMost mostPeriod) periods ≡ true
+  pub reserves-allowed : every (upToMost mostReserve) reserves ≡ true
+  pub small : great .0 ≤ mostGreat
+
+-- tests 1 to 6 pass
+pub record Forms (periods reserves speeds volts : List ℕ) : Type 0 where
+  pub tasks-match : sameCount mostTasks periods reserves ≡ true
+  pub speeds-match : sameCount mostSpeeds speeds volts ≡ true
+  pub periods-allowed : every (upToMost mostPeriod) periods ≡ true
+  pub reserves-allowed : every (upToMost mostReserve) reserves ≡ true
+  pub speeds-rise : speedsRise 0 speeds ≡ true
+  pub volts-never-fall : voltsNeverFall 0 volts ≡ true
+
+-- an answer of 1 to 6 is start's number, and with 0 tests 1 to 6 pass
+pub record Formed (periods reserves speeds volts : List ℕ) (number : ℕ) : Type 0 where
+  pub refused : (number ≡ 0 → ⊥) → number ≡ startNumber periods reserves speeds volts
+  pub passed : number ≡ 0 → Forms periods reserves speeds volts

@@ -1,0 +1,101 @@
+-- The laws of `upTo` and `every`: lengths, places, stores and rests, each by induction on the list or on its number of places.
+use mathlib.Core.Path.{_≡_, refl, sym, ap, _∙_}
+use mathlib.Core.Bool.{Bool, true, false, false≢true, _&&_}
+use mathlib.Core.List.{List, [], _∷_}
+use Prim.Native.Nat.{ℕ, zero, suc, suc-le-suc, _+_, _≤_, _<_}
+use native.Mathlib.Nat.{le-of-suc-le-suc, not-suc-le-zero, zero-lt-suc}
+use native.Mathlib.Decide.{ℕ-discrete}
+use native.Mathlib.Numerals.{add-one}
+use native.Mathlib.Omega.{arith}
+use lib.ListN.{length, getD, drop, set, length-set, drop-of-length-le}
+use lib.Seq.{drop-cons, ext-getD, getD-set-same, getD-set-other}
+use Rattle.rules.specs.Words.{upTo, every}
+
+-- both sides of a conjunction that holds
+pub both-left : (a b : Bool) → (a && b) ≡ true → a ≡ true
+both-left true b e = refl
+both-left false b e = e
+
+pub both-right : (a b : Bool) → (a && b) ≡ true → b ≡ true
+both-right true b e = e
+both-right false b e = absurd (false≢true e)
+
+module _ {A : Type 0} where
+  pub length-upTo : (n : ℕ) (f : ℕ → A) → length (upTo n f) ≡ n
+  unfolding upTo
+  length-upTo zero f = refl
+  length-upTo (suc n) f = ap suc (length-upTo n (λ i. f (suc i)))
+
+  pub getD-upTo : (n : ℕ) (f : ℕ → A) (i : ℕ) (d : A) → i < n → getD (upTo n f) i d ≡ f i
+  unfolding upTo
+  getD-upTo zero f i d l = absurd (not-suc-le-zero l)
+  getD-upTo (suc n) f zero d l = refl
+  getD-upTo (suc n) f (suc i) d l = getD-upTo n (λ k. f (suc k)) i d (le-of-suc-le-suc l)
+
+  -- two functions that agree below n give the same list
+  pub upTo-ext : (n : ℕ) (f g : ℕ → A) → ((i : ℕ) → i < n → f i ≡ g i) → upTo n f ≡ upTo n g
+  unfolding upTo
+  upTo-ext zero f g e = refl
+  upTo-ext (suc n) f g e =
+      let head : f 0 ≡ g 0 = e 0 (zero-lt-suc n) in
+      let tail : upTo n (λ i. f (suc i)) ≡ upTo n (λ i. g (suc i)) =
+      upTo-ext n (λ i. f (suc i)) (λ i. g (suc i)) (λ i l. e (suc i) (suc-le-suc l)) in
+      rw (head, tail)
+
+  -- what is left of the list at a place, and past the end
+  pub upTo-rest : (n : ℕ) (f : ℕ → A) (i : ℕ) → i < n → drop i (upTo n f) ≡ f i ∷ drop (i + 1) (upTo n f)
+  upTo-rest n f i l =
+      let h : i < length (upTo n f) = rw (length-upTo n f) l in
+      rw (add-one, drop-cons (upTo n f) i (f i), getD-upTo n f i (f i) l)
+
+  pub upTo-end : (n : ℕ) (f : ℕ → A) (i : ℕ) → n ≤ i → drop i (upTo n f) ≡ []
+  upTo-end n f i l = drop-of-length-le (upTo n f) {i = i} (rw (length-upTo n f) l)
+
+  -- a list of n places is the list of its places
+  pub upTo-getD : (l : List A) (n : ℕ) (d : A) → length l ≡ n → upTo n (λ i. getD l i d) ≡ l
+  upTo-getD l n d e =
+      ext-getD d (upTo n (λ i. getD l i d)) l (length-upTo n (λ i. getD l i d) ∙ sym e)
+      λ i h. getD-upTo n (λ k. getD l k d) i d (rw (length-upTo n (λ k. getD l k d)) at h)
+
+  -- a store at a place: the list of a function that has the value there and agrees elsewhere
+  pub upTo-set : (n : ℕ) (f g : ℕ → A) (i : ℕ) (x : A) → i < n → g i ≡ x → ((k : ℕ) → (k ≡ i → ⊥) → f k ≡ g k) → set (upTo n f) i x ≡ upTo n g
+  upTo-set n f g i x l here there =
+      ext-getD x (set (upTo n f) i x) (upTo n g) (length-set (upTo n f) i x ∙ length-upTo n f ∙ sym (length-upTo n g)) at
+    where
+      at : (k : ℕ) → k < length (set (upTo n f) i x) → getD (set (upTo n f) i x) k x ≡ getD (upTo n g) k x
+      at k h = go (ℕ-discrete k i)
+        where
+          lk : k < n
+          lk = rw (length-set, length-upTo n f) at h
+
+          go : Dec (k ≡ i) → getD (set (upTo n f) i x) k x ≡ getD (upTo n g) k x
+          go (yes e) = rw e (getD-set-same (upTo n f) i x x (rw (length-upTo n f) l) ∙ sym here ∙ sym (getD-upTo n g i x l))
+          go (no ne) =
+              getD-set-other (upTo n f) i k x x ne
+              ∙ getD-upTo n f k x lk
+              ∙ there k ne
+              ∙ sym (getD-upTo n g k x lk)
+
+  -- what is left of a list at a place
+  pub rest-cons : (l : List A) (d : A) (i : ℕ) → i < length l → drop i l ≡ getD l i d ∷ drop (i + 1) l
+  rest-cons l d i h = rw (add-one, drop-cons l i d)
+
+  -- a walk that tests every place: it goes on, stops at a place that fails, or ends
+  pub every-on : (q : A → Bool) (l : List A) (d : A) (i : ℕ) → i < length l → q (getD l i d) ≡ true → every q (drop i l) ≡ every q (drop (i + 1) l)
+  unfolding every
+  every-on q l d i h e = rw (rest-cons l d i h, e)
+
+  pub every-stop : (q : A → Bool) (l : List A) (d : A) (i : ℕ) → i < length l → q (getD l i d) ≡ false → every q (drop i l) ≡ false
+  unfolding every
+  every-stop q l d i h e = rw (rest-cons l d i h, e)
+
+  pub every-end : (q : A → Bool) (l : List A) (i : ℕ) → length l ≤ i → every q (drop i l) ≡ true
+  unfolding every
+  every-end q l i h = rw (drop-of-length-le l {i = i} h)
+
+  -- what holds of every place holds of each
+  pub every-at : (q : A → Bool) (l : List A) (d : A) (i : ℕ) → every q l ≡ true → i < length l → q (getD l i d) ≡ true
+  unfolding every
+  every-at q [] d i e h = absurd (not-suc-le-zero h)
+  every-at q (x ∷ l) d zero e h = both-left (q x) (every q l) e
+  every-at q (x ∷ l) d (suc i) e h = every-at q l d i (both-right (q x) (every q l) e) (le-of-suc-le-suc h)

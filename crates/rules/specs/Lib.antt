@@ -1,0 +1,10 @@
+pub mod Words
+pub mod Limits
+pub mod State
+pub mod Load
+pub mod Choice
+pub mod Settlement
+pub mod Counting
+pub mod Admission
+pub mod Numbers
+pub mod Calls

@@ -1,0 +1,27 @@
+-- Counts in their units, and the one way from ticks to cycles.
+use Prim.Native.Nat.{ℕ, _*_, min}
+use Rattle.units.specs.declared.Ticks.{Ticks}
+use Rattle.units.specs.declared.Cycles.{Cycles}
+use Rattle.units.specs.declared.Speed.{Speed}
+use Rattle.units.specs.declared.Volts.{Volts}
+
+-- a number as a count of each unit
+abbrev pub ticks : ℕ → Ticks
+ticks n = record { 0 = n }
+
+abbrev pub cycles : ℕ → Cycles
+cycles n = record { 0 = n }
+
+abbrev pub speed : ℕ → Speed
+speed n = record { 0 = n }
+
+abbrev pub volts : ℕ → Volts
+volts n = record { 0 = n }
+
+-- the largest count of cycles that can be written
+abbrev pub mostCycles : ℕ
+mostCycles = 18_446_744_073_709_551_615
+
+-- speed x ticks, or the largest count where that is more
+unfoldable pub cyclesIn : Speed → Ticks → Cycles
+cyclesIn s t = cycles (min (s .0 * t .0) mostCycles)
