@@ -9,9 +9,10 @@ use Rattle.units.specs.Units.{ticks, cycles}
 use Rattle.units.specs.declared.Ticks.{Ticks}
 use Rattle.units.specs.declared.Cycles.{Cycles}
 use Rattle.rules.specs.Words.{every}
-use Rattle.rules.specs.Limits.{mostTasks, mostSpeeds, mostPeriod, mostReserve, mostGreat, upToMost}
+use Rattle.rules.specs.Limits.{mostTasks, mostPeriod, mostReserve, mostGreat, upToMost}
 use Rattle.rules.specs.Admission.{greatOf, demand}
-use Rattle.rules.specs.Numbers.{sameCount, speedsRise, voltsNeverFall, startNumber}
+use Rattle.rules.specs.Numbers.{startNumber}
+use Rattle.rules.proofs.Tables.{Forms}
 use Rattle.admission.specs.declared.Verdict.{Verdict}
 
 -- a table's number, and its great period where the number is 0
@@ -41,16 +42,7 @@ pub record Summable (periods reserves : List ℕ) (great : Ticks) : Type 0 where
   pub reserves-allowed : every (upToMost mostReserve) reserves ≡ true
   pub small : great .0 ≤ mostGreat
 
--- tests 1 to 6 pass
-pub record Forms (periods reserves speeds volts : List ℕ) : Type 0 where
-  pub tasks-match : sameCount mostTasks periods reserves ≡ true
-  pub speeds-match : sameCount mostSpeeds speeds volts ≡ true
-  pub periods-allowed : every (upToMost mostPeriod) periods ≡ true
-  pub reserves-allowed : every (upToMost mostReserve) reserves ≡ true
-  pub speeds-rise : speedsRise 0 speeds ≡ true
-  pub volts-never-fall : voltsNeverFall 0 volts ≡ true
-
 -- an answer of 1 to 6 is start's number, and with 0 tests 1 to 6 pass
 pub record Formed (periods reserves speeds volts : List ℕ) (number : ℕ) : Type 0 where
-  pub refused : (number ≡ 0 → ⊥) → number ≡ startNumber periods reserves speeds volts
+  pub refused : (number ≡ 0 → ⊥) → startNumber periods reserves speeds volts ≡ number
   pub passed : number ≡ 0 → Forms periods reserves speeds volts

@@ -6,8 +6,9 @@ use native.Mathlib.Omega.{arith}
 use borrow.Author.Tests.{not-true, not-false}
 use Rattle.rules.specs.Admission.{greatOf}
 use Rattle.rules.specs.Limits.{mostTasks, mostSpeeds, mostGreat}
+use Rattle.rules.proofs.Tables.{match-some, number-7, number-8}
 use Rattle.admission.proofs.Great.{great-is, great-within, great-above}
-use Rattle.admission.proofs.Rows.{match-some, number-7, number-8, number-0, verdict-refused, verdict-passed, summable, admits-is}
+use Rattle.admission.proofs.Rows.{verdict-refused, verdict-passed, summable, admits-is}
 use Rattle.admission.proofs.judge.Statement.{statement}
 use Rattle.admission.proofs.judge.Tie as tie
 
@@ -39,7 +40,7 @@ returns-2 c =
     let f = c .before .before .before .before .before .form-number .ensures .passed (c .before .before .before .before .if1 .left) in
     let ps = c .before .before .before .before .before .before .before .before .before .before .args .periods .now in
     let high : mostGreat < greatOf ps = great-above ps (c .before .before .before .lcm-of .ensures) (c .before .enum-told .given .1) in
-    c .refused2 .ensures ∙ verdict-refused _ _ _ _ 7 (omega arith) (sym (number-7 _ _ _ _ f high))
+    c .refused2 .ensures ∙ verdict-refused _ _ _ _ 7 (omega arith) (number-7 _ _ _ _ f high)
 
 admits-requires : tie.Need-admits-requires
 admits-requires c κs =
@@ -63,7 +64,7 @@ returns-3 c =
     let e = great-is ps found _ told in
     let low : greatOf ps ≤ mostGreat = rw (← e) within in
     let no-room = sym (admits-is ps _ _ _ e) ∙ sym (c .before .before .admits .ensures) ∙ not-true _ (c .before .if2 .taken) in
-    c .refused3 .ensures ∙ verdict-refused _ _ _ _ 8 (omega arith) (sym (number-8 _ _ _ _ f low no-room))
+    c .refused3 .ensures ∙ verdict-refused _ _ _ _ 8 (omega arith) (number-8 _ _ _ _ f low no-room)
 
 returns-4 : tie.Need-returns-4
 returns-4 c =
@@ -75,7 +76,7 @@ returns-4 c =
     let e = great-is ps found _ told in
     let low : greatOf ps ≤ mostGreat = rw (← e) within in
     let room = sym (admits-is ps _ _ _ e) ∙ sym (c .before .admits .ensures) ∙ not-false _ (c .if2 .left) in
-    verdict-passed _ _ _ _ (number-0 _ _ _ _ f low room) _ e
+    verdict-passed _ _ _ _ (record { forms = f; great-small = low; admits = room }) _ e
 
 pub judge-spec : {M : Type 1} → statement M
 judge-spec =

@@ -3,7 +3,8 @@ use borrow.Author.Needs.{needs}
 use mathlib.Core.Path.{_≡_, refl, sym, _∙_}
 use lib.Dec.{lit<}
 use borrow.Author.Tests.{not-true, not-false}
-use Rattle.admission.proofs.Rows.{stops, number-1, number-2, number-3, number-4, number-5, number-6}
+use Rattle.rules.proofs.Tables.{number-1, number-2, number-3, number-4, number-5, number-6}
+use Rattle.admission.proofs.Rows.{stops}
 use Rattle.admission.proofs.Walks.{speeds-climb, volts-climb}
 use Rattle.admission.proofs.tests.form_number.Statement.{statement}
 use Rattle.admission.proofs.tests.form_number.Tie as tie

@@ -1,0 +1,30 @@
+-- What start answers from the verdict on its table: the verdict's number, and the state that goes with it.
+use mathlib.Core.Path.{_≡_, refl, sym, ap, _∙_}
+use mathlib.Core.List.{List}
+use Prim.Native.Nat.{ℕ}
+use borrow.Author.Tests.{ne-eqb}
+use Rattle.rules.specs.declared.State.{State}
+use Rattle.rules.specs.Numbers.{startNumber}
+use Rattle.rules.specs.Admission.{greatOf}
+use Rattle.rules.specs.Calls.{tasksFrom, ladderFrom, freshState, startOf}
+use Rattle.admission.specs.declared.Verdict.{Verdict}
+use Rattle.admission.specs.Verdict.{verdictOf}
+use Rattle.governor.specs.Start.{refusal}
+
+module _ (ps cs ss vs : List ℕ) (v : Verdict) (judged : v ≡ verdictOf ps cs ss vs) where
+  -- the verdict's number is start's, and its great period is the table's where that is 0
+  pub number-is : startNumber ps cs ss vs ≡ v .number
+  unfolding verdictOf
+  number-is = sym (ap (λ (x : Verdict). x .number) judged)
+
+  pub great-is : v .number ≡ 0 → v .great .0 ≡ greatOf ps
+  unfolding verdictOf
+  great-is z = ap (λ (x : Verdict). x .great .0) judged ∙ rw (number-is ∙ z)
+
+  pub start-refused : (v .number ≡ 0 → ⊥) → refusal (v .number) ≡ startOf ps cs ss vs
+  unfolding refusal startOf
+  start-refused n = rw (number-is, ne-eqb (v .number) 0 n)
+
+  pub start-passed : v .number ≡ 0 → (s : State) → s ≡ freshState (tasksFrom (v .great .0) ps cs) (ladderFrom ss vs) → record { number = 0; state = s } ≡ startOf ps cs ss vs
+  unfolding startOf
+  start-passed z s e = rw (number-is ∙ z, e, great-is z)
