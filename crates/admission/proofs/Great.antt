@@ -5,7 +5,7 @@ use Prim.Native.Nat.{ℕ, _≤_, _<_}
 use Rattle.divisors.specs.declared.Multiple.{Multiple}
 use Rattle.divisors.specs.declared.Multiple.the-variants.{Is, TooLarge}
 use Rattle.divisors.specs.Divisors.{IsLcmOf, Capped}
-use Rattle.divisors.specs.DivisorLaws.{all-is, all-one, capped-number, capped-large}
+use Rattle.divisors.proofs.DivisorLaws.{all-is, all-one, capped-number, capped-large}
 use Rattle.rules.specs.Limits.{mostGreat}
 use Rattle.rules.specs.Admission.{greatOf}
 

@@ -4,7 +4,7 @@ use Prim.Native.Nat.{ℕ, _*_, _/_, _≤_, _<_}
 use native.Mathlib.Nat.{le-div-iff-mul-le, div-lt-iff-lt-mul}
 use Rattle.divisors.specs.declared.Multiple.the-variants.{Is, TooLarge}
 use Rattle.divisors.specs.Divisors.{IsGcd, IsLcm, Capped}
-use Rattle.divisors.specs.DivisorLaws.{quotient-is, lcm-one}
+use Rattle.divisors.proofs.DivisorLaws.{quotient-is, lcm-one}
 
 -- a product by a number above 0 is at most the cap where the quotient of the cap allows it
 pub product-within : {q b cap : ℕ} → 0 < b → q ≤ cap / b → q * b ≤ cap

@@ -9,7 +9,7 @@ use borrow.Author.Count.{below-more}
 use lib.ListN.{length, getD, take, length-take}
 use lib.Seq.{getD-take, take-all}
 use Rattle.divisors.specs.Divisors.{lcmAll, lcmOf, IsLcm, IsLcmOf, ZeroIn}
-use Rattle.divisors.specs.DivisorLaws.{lcm-is, all-is, all-one, all-pos}
+use Rattle.divisors.proofs.DivisorLaws.{lcm-is, all-is, all-one, all-pos}
 
 -- a list with a 0 has 0 as its least common multiple
 pub zero-is : (l : List ℕ) → ZeroIn l true → IsLcmOf l 0

@@ -4,7 +4,7 @@ use native.Mathlib.Nat.{mod-lt, pos-of-ne-zero}
 use native.Mathlib.Omega.{arith}
 use borrow.Fn.Kinds.{In}
 use borrow.Fn.PlainCycle.{Measures, is, falls, and}
-use Rattle.divisors.specs.DivisorLaws.{gcd-zero, gcd-step}
+use Rattle.divisors.proofs.DivisorLaws.{gcd-zero, gcd-step}
 use Rattle.divisors.proofs.gcd.Reads as gcd
 use Rattle.divisors.proofs.gcd.Kinds as gcd-kinds
 use Rattle.divisors.proofs.+gcd.Lts-gcd as gcd-lts

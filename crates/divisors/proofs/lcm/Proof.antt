@@ -3,7 +3,7 @@ use native.Mathlib.Nat.{pos-of-ne-zero, pos-of-dvd-of-pos, lt-of-le-of-lt}
 use native.Mathlib.Omega.{arith}
 use borrow.Author.Needs.{needs}
 use Rattle.divisors.specs.Divisors.{Capped}
-use Rattle.divisors.specs.DivisorLaws.{lcm-zero-left, lcm-zero-right}
+use Rattle.divisors.proofs.DivisorLaws.{lcm-zero-left, lcm-zero-right}
 use Rattle.divisors.proofs.Caps.{product-within, product-is, product-above}
 use Rattle.divisors.proofs.lcm.Statement.{statement}
 use Rattle.divisors.proofs.lcm.Tie as tie

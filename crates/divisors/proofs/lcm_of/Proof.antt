@@ -5,7 +5,7 @@ use native.Mathlib.Omega.{arith}
 use borrow.Author.Needs.{needs}
 use lib.ListN.{length, take, getD}
 use Rattle.divisors.specs.Divisors.{lcmOf, IsLcmOf, Capped, ZeroIn}
-use Rattle.divisors.specs.DivisorLaws.{lcm-is, capped-number, capped-large}
+use Rattle.divisors.proofs.DivisorLaws.{lcm-is, capped-number, capped-large}
 use Rattle.divisors.proofs.Prefixes.{zero-is, none-pos, empty-is, turn-is, turn-above, end-is}
 use Rattle.divisors.proofs.lcm_of.Statement.{statement}
 use Rattle.divisors.proofs.lcm_of.Tie as tie

@@ -100,11 +100,6 @@ all-is (p ∷ ps) =
       least = λ n all. two .least n (all 0 (zero-lt-suc (length ps))) (rest .least n (λ k lt. all (suc k) (suc-le-suc lt)));
     }
 
--- 8, 10 and 14 have 280
-pub all-worked : lcmAll (8 ∷ 10 ∷ 14 ∷ []) ≡ 280
-unfolding lcmAll lcmOf gcdOf euclid
-all-worked = refl
-
 -- every number of the list divides `lcmAll`
 pub all-each : (l : List ℕ) (k : ℕ) → k < length l → getD l k 0 ∣ lcmAll l
 all-each l = all-is l .each
