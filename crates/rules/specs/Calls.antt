@@ -74,10 +74,10 @@ nowOf s =
       speed = speed (cond (eqb n 0) (speedOf s) 0);
     }
 
--- tick: a number, and the next state or the one given
+-- tick, for a report and a grants list of so many places: a number, and the next state or the one given
 unfoldable pub tickOf : State → List ℕ → ℕ → Ticked
-tickOf s report grants =
-    let n = tickNumber s report grants in
+tickOf s report places =
+    let n = tickNumber s report places in
     record { number = n; state = cond (eqb n 0) (nextOf s (placeOf s) (settled s (speedOf s) report)) s }
 
 -- tick: the grants list after the call, each task's cycles; refused, as it was

@@ -114,11 +114,11 @@ unfoldable pub nowNumber : State → ℕ
 nowNumber s = firstOf ((not (sound s), 9) ∷ (allDone s, 10) ∷ (noneCarries s, 12) ∷ [])
 
 unfoldable pub tickNumber : State → List ℕ → ℕ → ℕ
-tickNumber s report grants =
+tickNumber s report places =
     firstOf
     ((not (sound s), 9)
     ∷ (allDone s, 10)
-    ∷ (not (eqb (length report) (s .tasks .count) && eqb grants (s .tasks .count)), 11)
+    ∷ (not (eqb (length report) (s .tasks .count) && eqb places (s .tasks .count)), 11)
     ∷ (noneCarries s, 12)
     ∷ (not (keepsRule4 s (speedOf s) report), 13)
     ∷ [])
