@@ -8,13 +8,13 @@ use borrow.Author.Tests.{ne-eqb}
 use Rattle.units.specs.declared.Ticks.{Ticks}
 use Rattle.rules.specs.Limits.{mostTasks, mostGreat}
 use Rattle.rules.specs.State.{topOf}
-use Rattle.rules.specs.Admission.{greatOf, demand, admitted}
+use Rattle.rules.specs.Admission.{greatOf, fullLoad, admitted}
 use Rattle.rules.specs.Numbers.{startNumber}
 use Rattle.rules.proofs.Tables.{Forms, Passes, match-most, match-same, number-0}
 use Rattle.admission.specs.Verdict.{verdictOf, refusal, Formed, Summable}
 
 -- rule 7 as `admits` tests it
-pub admits-is : (ps cs ss : List ℕ) (great : Ticks) → great .0 ≡ greatOf ps → leb (demand (great .0) ps cs) (topOf ss * great .0) ≡ admitted ps cs ss
+pub admits-is : (ps cs ss : List ℕ) (great : Ticks) → great .0 ≡ greatOf ps → leb (fullLoad (great .0) ps cs) (topOf ss * great .0) ≡ admitted ps cs ss
 unfolding admitted
 admits-is ps cs ss great e = rw e
 

@@ -9,7 +9,7 @@ use lib.ListN.{length, getD, drop, drop-of-length-le}
 use Rattle.units.specs.declared.Ticks.{Ticks}
 use Rattle.rules.specs.Words.{every}
 use Rattle.rules.specs.Limits.{mostTasks, mostPeriod, mostReserve, mostGreat, upToMost}
-use Rattle.rules.specs.Admission.{demand}
+use Rattle.rules.specs.Admission.{fullLoad}
 use Rattle.rules.proofs.Lists.{rest-cons, every-at}
 use Rattle.rules.proofs.Ranges.{range-from, range-to}
 use Rattle.admission.specs.Verdict.{Summable}
@@ -20,14 +20,14 @@ mostTerm = 1_000_000_000_000_000
 
 module _ (great : Ticks) (ps cs : List ℕ) (i : ℕ) where
   -- a turn
-  pub demand-on : i < length ps → i < length cs → demand (great .0) (drop i ps) (drop i cs) ≡ getD cs i 0 * (great .0 / getD ps i 0) + demand (great .0) (drop (i + 1) ps) (drop (i + 1) cs)
-  unfolding demand
-  demand-on h k = rw (rest-cons ps 0 i h, rest-cons cs 0 i k)
+  pub full-on : i < length ps → i < length cs → fullLoad (great .0) (drop i ps) (drop i cs) ≡ getD cs i 0 * (great .0 / getD ps i 0) + fullLoad (great .0) (drop (i + 1) ps) (drop (i + 1) cs)
+  unfolding fullLoad
+  full-on h k = rw (rest-cons ps 0 i h, rest-cons cs 0 i k)
 
   -- the end
-  pub demand-end : length ps ≤ i → length cs ≤ i → demand (great .0) (drop i ps) (drop i cs) ≡ 0
-  unfolding demand
-  demand-end h k = rw (drop-of-length-le ps {i = i} h, drop-of-length-le cs {i = i} k)
+  pub full-end : length ps ≤ i → length cs ≤ i → fullLoad (great .0) (drop i ps) (drop i cs) ≡ 0
+  unfolding fullLoad
+  full-end h k = rw (drop-of-length-le ps {i = i} h, drop-of-length-le cs {i = i} k)
 
 module _ (great : Ticks) (ps cs : List ℕ) (s : Summable ps cs great) (i : ℕ) (h : i < length ps) where
   paired-at : i < length cs

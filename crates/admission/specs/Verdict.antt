@@ -10,7 +10,7 @@ use Rattle.units.specs.declared.Ticks.{Ticks}
 use Rattle.units.specs.declared.Cycles.{Cycles}
 use Rattle.rules.specs.Words.{every}
 use Rattle.rules.specs.Limits.{mostTasks, mostPeriod, mostReserve, mostGreat, upToMost}
-use Rattle.rules.specs.Admission.{greatOf, demand}
+use Rattle.rules.specs.Admission.{greatOf, fullLoad}
 use Rattle.rules.specs.Numbers.{startNumber}
 use Rattle.rules.proofs.Tables.{Forms}
 use Rattle.admission.specs.declared.Verdict.{Verdict}
@@ -31,8 +31,8 @@ climbsFrom most gap before [] = true
 climbsFrom most gap before (x ∷ xs) = upToMost most x && leb (before + gap) x && climbsFrom most gap x xs
 
 -- the sum of rule 7 as a count of cycles
-unfoldable pub demandOf : List ℕ → List ℕ → Ticks → Cycles
-demandOf periods reserves great = cycles (demand (great .0) periods reserves)
+unfoldable pub fullLoadOf : List ℕ → List ℕ → Ticks → Cycles
+fullLoadOf periods reserves great = cycles (fullLoad (great .0) periods reserves)
 
 -- what keeps that sum below 2 ^ 64: tests 1, 3, 4 and 7 have passed
 pub record Summable (periods reserves : List ℕ) (great : Ticks) : Type 0 where

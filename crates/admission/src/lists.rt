@@ -4,7 +4,7 @@ ghost use Prim.Native.Nat.{_≤_};
 ghost use Rattle.rules.specs.Words.{every};
 ghost use Rattle.rules.specs.Limits.{upToMost};
 ghost use Rattle.rules.specs.Numbers.{sameCount};
-ghost use Rattle.admission.specs.Verdict.{climbsFrom, Summable, demandOf};
+ghost use Rattle.admission.specs.Verdict.{climbsFrom, Summable, fullLoadOf};
 use units::Cycles;
 use units::Ticks;
 
@@ -65,9 +65,9 @@ pub(crate) fn climbs(list: &[u64], most: u64, gap: u64) -> bool
 }
 
 // Rule 7: the sum of reserve x (H / P).
-pub(crate) fn demand(periods: &[u64], reserves: &[u64], great: Ticks) -> Cycles
+pub(crate) fn full_load(periods: &[u64], reserves: &[u64], great: Ticks) -> Cycles
     requires { ⌜ Summable (now periods) (now reserves) great ⌝ }
-    ensures { λ r. ⌜ r ≡ demandOf (now (periods .entry)) (now (reserves .entry)) great ⌝ }
+    ensures { λ r. ⌜ r ≡ fullLoadOf (now (periods .entry)) (now (reserves .entry)) great ⌝ }
 {
     let mut sum = Cycles(0);
     let mut i = 0;

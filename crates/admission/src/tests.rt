@@ -4,7 +4,7 @@ ghost use Prim.Native.Nat.{_*_, _<_};
 ghost use lib.Dec.{leb};
 ghost use lib.ListN.{length};
 ghost use Rattle.rules.specs.State.{topOf};
-ghost use Rattle.rules.specs.Admission.{demand};
+ghost use Rattle.rules.specs.Admission.{fullLoad};
 ghost use Rattle.admission.specs.Verdict.{Formed, Summable};
 use crate::lists;
 use units::Speed;
@@ -40,10 +40,10 @@ pub(crate) fn admits(periods: &[u64], reserves: &[u64], speeds: &[u64], great: T
     requires { ⌜ Summable (now periods) (now reserves) great × (0 < length (now speeds)) ⌝ }
     ensures { λ r.
         ⌜
-        r ≡ leb (demand (great .0) (now (periods .entry)) (now (reserves .entry))) (topOf (now (speeds .entry)) * great .0)
+        r ≡ leb (fullLoad (great .0) (now (periods .entry)) (now (reserves .entry))) (topOf (now (speeds .entry)) * great .0)
         ⌝ }
 {
-    let load = lists::demand(periods, reserves, great);
+    let load = lists::full_load(periods, reserves, great);
     let top = Speed(speeds[speeds.len() - 1]);
     units::carries(top, great, load)
 }

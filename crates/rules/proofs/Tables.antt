@@ -10,7 +10,7 @@ use borrow.Author.Tests.{lt-ltb, le-ltb, ltb-false, leb-true, eqb-true, not-fals
 use Rattle.rules.specs.Words.{every, firstOf}
 use Rattle.rules.specs.Limits.{mostTasks, mostPeriod, mostReserve, mostSpeeds, mostGreat, upToMost}
 use Rattle.rules.specs.State.{topOf}
-use Rattle.rules.specs.Admission.{greatOf, demand, admitted}
+use Rattle.rules.specs.Admission.{greatOf, fullLoad, admitted}
 use Rattle.rules.specs.Numbers.{sameCount, speedsRise, voltsNeverFall, startNumber}
 use Rattle.rules.proofs.Lists.{both-left, both-right}
 use Rattle.rules.proofs.Ranges.{range-from, range-to}

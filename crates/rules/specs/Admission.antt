@@ -10,13 +10,13 @@ use Rattle.rules.specs.State.{topOf}
 unfoldable pub greatOf : List ℕ → ℕ
 greatOf periods = lcmAll periods
 
--- 7. The sum of reserve x (H / P).
-unfoldable pub demand : ℕ → List ℕ → List ℕ → ℕ
-demand great [] [] = 0
-demand great [] (c ∷ cs) = 0
-demand great (p ∷ ps) [] = 0
-demand great (p ∷ ps) (c ∷ cs) = c * (great / p) + demand great ps cs
+-- Rule 7. The sum of reserve x (H / P), the load where every job uses its reserve.
+unfoldable pub fullLoad : ℕ → List ℕ → List ℕ → ℕ
+fullLoad great [] [] = 0
+fullLoad great [] (c ∷ cs) = 0
+fullLoad great (p ∷ ps) [] = 0
+fullLoad great (p ∷ ps) (c ∷ cs) = c * (great / p) + fullLoad great ps cs
 
--- 7. A table is admitted exactly when that sum is at most top speed x H.
+-- Rule 7. A table is admitted exactly when that sum is at most top speed x H.
 unfoldable pub admitted : List ℕ → List ℕ → List ℕ → Bool
-admitted periods reserves speeds = leb (demand (greatOf periods) periods reserves) (topOf speeds * greatOf periods)
+admitted periods reserves speeds = leb (fullLoad (greatOf periods) periods reserves) (topOf speeds * greatOf periods)

@@ -17,7 +17,7 @@ use Rattle.rules.specs.declared.Ticked.{Ticked}
 use Rattle.rules.specs.declared.Used.{Used}
 use Rattle.rules.specs.Words.{upTo}
 use Rattle.rules.specs.Limits.{mostTasks, mostSpeeds}
-use Rattle.rules.specs.Choice.{choiceOf, placeOf, speedOf}
+use Rattle.rules.specs.Choice.{choiceOf, speedPlace, speedOf}
 use Rattle.rules.specs.Settlement.{settled}
 use Rattle.rules.specs.Counting.{nextOf, energySum}
 use Rattle.rules.specs.Admission.{greatOf}
@@ -76,9 +76,9 @@ nowOf s =
 
 -- tick, for a report and a grants list of so many places: a number, and the next state or the one given
 unfoldable pub tickOf : State → List ℕ → ℕ → Ticked
-tickOf s report places =
-    let n = tickNumber s report places in
-    record { number = n; state = cond (eqb n 0) (nextOf s (placeOf s) (settled s (speedOf s) report)) s }
+tickOf s report grantPlaces =
+    let n = tickNumber s report grantPlaces in
+    record { number = n; state = cond (eqb n 0) (nextOf s (speedPlace s) (settled s (speedOf s) report)) s }
 
 -- tick: the grants list after the call, each task's cycles; refused, as it was
 unfoldable pub grantsOf : State → List ℕ → List ℕ → List ℕ

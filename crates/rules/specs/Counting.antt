@@ -15,42 +15,42 @@ use Rattle.rules.specs.declared.State.{State}
 use Rattle.rules.specs.Words.{upTo, total}
 use Rattle.rules.specs.State.{periodAt, jobAt, putAt, voltsAt, countAt}
 
--- 5. The cycles granted are added to the count of that tick's speed, idle cycles to the idle count; cut jobs are counted.
+-- Rule 5. The cycles granted are added to the count of that tick's speed, idle cycles to the idle count. Rule 4: the jobs cut are counted.
 unfoldable pub counted : Tally → ℕ → Settling → Tally
-counted y place w =
+counted tally place done =
     record {
-      counts = set (y .counts) place (cycles (countAt y place + total (λ (g : Cycles). g .0) (w .grants)));
-      idle = cycles (y .idle .0 + w .left .0);
-      late = y .late;
-      cut = y .cut + w .cut;
+      counts = set (tally .counts) place (cycles (countAt tally place + total (λ (g : Cycles). g .0) (done .grants)));
+      idle = cycles (tally .idle .0 + done .left .0);
+      late = tally .late;
+      cut = tally .cut + done .cut;
     }
 
--- 5. A task whose period divides t is released: a job not over is counted as late and dropped, the new one has run 0.
+-- Rule 5. A task whose period divides t is released: a job not over is counted as late and dropped, the new one has run 0.
 unfoldable pub releaseAt : Tasks → ℕ → ℕ → Releasing → Releasing
-releaseAt ts t i w =
+releaseAt ts t i sofar =
     cond (eqb (t % periodAt ts i) 0)
-    (record { jobs = putAt (w .jobs) i 0 false; late = w .late + cond (jobAt ts (w .jobs) i .over) 0 1 })
-    w
+    (record { jobs = putAt (sofar .jobs) i 0 false; late = sofar .late + cond (jobAt ts (sofar .jobs) i .over) 0 1 })
+    sofar
 
--- 5. Each of the first n tasks in turn.
+-- Rule 5. The releases of the first n tasks, one after the other.
 unfoldable pub releases : Tasks → ℕ → ℕ → Releasing → Releasing
-releases ts t zero w = w
-releases ts t (suc n) w = releaseAt ts t n (releases ts t n w)
+releases ts t zero sofar = sofar
+releases ts t (suc n) sofar = releaseAt ts t n (releases ts t n sofar)
 
--- 5. The state after a tick at the speed of a place: t grows by 1, and each task whose period divides the new t is released.
+-- Rule 5. The state after a tick at the speed of a place: t grows by 1, and each task whose period divides the new t is released.
 unfoldable pub nextOf : State → ℕ → Settling → State
-nextOf s place w =
+nextOf s place done =
     let t = s .done .0 + 1 in
-    let y = counted (s .tally) place w in
-    let r = releases (s .tasks) t (s .tasks .count) (record { jobs = w .jobs; late = y .late }) in
+    let tally = counted (s .tally) place done in
+    let r = releases (s .tasks) t (s .tasks .count) (record { jobs = done .jobs; late = tally .late }) in
     record {
       done = ticks t;
       tasks = s .tasks;
       jobs = r .jobs;
       ladder = s .ladder;
-      tally = record { counts = y .counts; idle = y .idle; late = r .late; cut = y .cut };
+      tally = record { counts = tally .counts; idle = tally .idle; late = r .late; cut = tally .cut };
     }
 
--- 6. Energy is the sum over speeds of count x volts x volts.
+-- Rule 6. Energy is the sum over speeds of count x volts x volts.
 unfoldable pub energySum : Ladder → Tally → ℕ
-energySum l y = total (λ i. countAt y i * voltsAt l i * voltsAt l i) (upTo (l .count) (λ i. i))
+energySum l tally = total (λ i. countAt tally i * voltsAt l i * voltsAt l i) (upTo (l .count) (λ i. i))

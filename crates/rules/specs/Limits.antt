@@ -27,6 +27,6 @@ mostGreat = 1_000_000
 abbrev pub mostTicks : ℕ
 mostTicks = 1_000_000_000
 
--- each of these is allowed from 1 to its most
+-- whether a number is from 1 to a limit: so all of the above but the great period and the ticks, which are only at most theirs
 unfoldable pub upToMost : ℕ → ℕ → Bool
 upToMost most n = leb 1 n && leb n most

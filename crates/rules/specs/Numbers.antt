@@ -14,16 +14,16 @@ use Rattle.rules.specs.Choice.{speedOf, noneCarries}
 use Rattle.rules.specs.Settlement.{keepsRule4}
 use Rattle.rules.specs.Admission.{greatOf, admitted}
 
--- 1, 2: from 1 to the most, and as many of the second list
+-- No. 1, 2: the first list has from 1 to `most` entries, and the second as many
 unfoldable pub sameCount : ℕ → List ℕ → List ℕ → Bool
 sameCount most xs ys = upToMost most (length xs) && eqb (length ys) (length xs)
 
--- 5: each speed in its range and above the one before
+-- No. 5: each speed in its range and above the one before
 unfoldable pub speedsRise : ℕ → List ℕ → Bool
 speedsRise before [] = true
 speedsRise before (s ∷ ss) = upToMost mostSpeed s && ltb before s && speedsRise s ss
 
--- 6: each volt value in its range and not below the one before
+-- No. 6: each volt value in its range and not below the one before
 unfoldable pub voltsNeverFall : ℕ → List ℕ → Bool
 voltsNeverFall before [] = true
 voltsNeverFall before (v ∷ vs) = upToMost mostVolts v && leb before v && voltsNeverFall v vs
@@ -86,11 +86,12 @@ cyclesBounded s =
 
 -- and late and cut are each at most 16 x t.
 unfoldable pub lateBounded : State → Bool
-lateBounded s = leb (s .tally .late) (mostTasks * s .done .0)
+lateBounded s = leb (s .tally .late) (16 * s .done .0)
 
 unfoldable pub cutBounded : State → Bool
-cutBounded s = leb (s .tally .cut) (mostTasks * s .done .0)
+cutBounded s = leb (s .tally .cut) (16 * s .done .0)
 
+-- All nine hold.
 unfoldable pub sound : State → Bool
 sound s =
     every (λ (clause : Bool). clause)
@@ -105,7 +106,7 @@ sound s =
     ∷ cutBounded s
     ∷ [])
 
--- 10: 1,000,000,000 ticks are done
+-- No. 10: 1,000,000,000 ticks are done
 unfoldable pub allDone : State → Bool
 allDone s = leb mostTicks (s .done .0)
 
@@ -114,11 +115,11 @@ unfoldable pub nowNumber : State → ℕ
 nowNumber s = firstOf ((not (sound s), 9) ∷ (allDone s, 10) ∷ (noneCarries s, 12) ∷ [])
 
 unfoldable pub tickNumber : State → List ℕ → ℕ → ℕ
-tickNumber s report places =
+tickNumber s report grantPlaces =
     firstOf
     ((not (sound s), 9)
     ∷ (allDone s, 10)
-    ∷ (not (eqb (length report) (s .tasks .count) && eqb places (s .tasks .count)), 11)
+    ∷ (not (eqb (length report) (s .tasks .count) && eqb grantPlaces (s .tasks .count)), 11)
     ∷ (noneCarries s, 12)
     ∷ (not (keepsRule4 s (speedOf s) report), 13)
     ∷ [])

@@ -15,7 +15,7 @@ use Rattle.rules.specs.Limits.{mostTasks}
 use Rattle.rules.specs.State.{jobAt, putAt}
 use Rattle.rules.specs.Choice.{orderOf}
 
--- 4. The first three bullets for a ready job, by what is left and its entry: nothing left, entry 0, or entry u.
+-- Rule 4. The first three bullets for a ready job, by what is left and its entry: nothing left, entry 0, or entry u.
 unfoldable pub byBullet : {A : Type 0} → ℕ → ℕ → A → A → A → A
 byBullet left entry nothing-left entry-0 entry-u = cond (eqb left 0) nothing-left (cond (eqb entry 0) entry-0 entry-u)
 
@@ -26,58 +26,58 @@ remaining j = j .reserve .0 - j .run .0
 unfoldable pub usesUp : ℕ → Job → Bool
 usesUp left j = eqb (j .run .0 + min left (remaining j)) (j .reserve .0)
 
--- 4. Nothing left: the entry must be 0. Entry u: needs run < u <= reserve and u - run <= what is left.
+-- Rule 4. What entries are allowed. Nothing left: only 0. Entry 0: always. Entry u: needs run < u <= reserve and u - run <= what is left.
 unfoldable pub allowed : ℕ → ℕ → Job → Bool
 allowed left u j =
     byBullet left u (eqb u 0) true (ltb (j .run .0) u && leb u (j .reserve .0) && leb (u - j .run .0) left)
 
--- 4. It gets 0; the smaller of what is left and its remaining reserve; u - run.
+-- Rule 4. What the job gets. Nothing left: 0. Entry 0: the smaller of what is left and its remaining reserve. Entry u: u - run.
 unfoldable pub granted : ℕ → ℕ → Job → ℕ
 granted left u j = byBullet left u 0 (min left (remaining j)) (u - j .run .0)
 
--- 4. Entry 0: if that uses up the reserve, the job is over and counted as cut. Entry u: it is over.
+-- Rule 4. Entry 0: if that uses up the reserve, the job is over and counted as cut. Entry u: it is over.
 unfoldable pub isCut : ℕ → ℕ → Job → Bool
 isCut left u j = byBullet left u false (usesUp left j) false
 
 unfoldable pub isOver : ℕ → ℕ → Job → Bool
 isOver left u j = byBullet left u false (usesUp left j) true
 
--- the tick after the job of task i is settled with entry u
+-- what is settled so far, and after the ready job at place i is settled with entry u
 unfoldable pub settleAt : Tasks → ℕ → ℕ → Settling → Settling
-settleAt ts i u w =
-    let j = jobAt ts (w .jobs) i in
-    let left = w .left .0 in
+settleAt ts i u sofar =
+    let j = jobAt ts (sofar .jobs) i in
+    let left = sofar .left .0 in
     record {
-      jobs = putAt (w .jobs) i (j .run .0 + granted left u j) (isOver left u j);
-      grants = set (w .grants) i (cycles (granted left u j));
+      jobs = putAt (sofar .jobs) i (j .run .0 + granted left u j) (isOver left u j);
+      grants = set (sofar .grants) i (cycles (granted left u j));
       left = cycles (left - granted left u j);
-      cut = w .cut + cond (isCut left u j) 1 0;
+      cut = sofar .cut + cond (isCut left u j) 1 0;
     }
 
--- 4. Take the ready jobs in the order of rule 3: what is made of them, and whether each entry is allowed.
+-- Rule 4. Take the ready jobs in the order of rule 3: what is settled after all of them, and whether each entry is allowed.
 unfoldable pub settleAll : Tasks → List ℕ → List ℕ → Settling → Settling
-settleAll ts report [] w = w
-settleAll ts report (i ∷ o) w = settleAll ts report o (settleAt ts i (getD report i 0) w)
+settleAll ts report [] sofar = sofar
+settleAll ts report (i ∷ o) sofar = settleAll ts report o (settleAt ts i (getD report i 0) sofar)
 
 unfoldable pub allAllowed : Tasks → List ℕ → List ℕ → Settling → Bool
-allAllowed ts report [] w = true
-allAllowed ts report (i ∷ o) w =
-    allowed (w .left .0) (getD report i 0) (jobAt ts (w .jobs) i)
-    && allAllowed ts report o (settleAt ts i (getD report i 0) w)
+allAllowed ts report [] sofar = true
+allAllowed ts report (i ∷ o) sofar =
+    allowed (sofar .left .0) (getD report i 0) (jobAt ts (sofar .jobs) i)
+    && allAllowed ts report o (settleAt ts i (getD report i 0) sofar)
 
--- 4. A job that is already over must have entry 0.
-unfoldable pub overQuiet : Tasks → Jobs → List ℕ → Bool
-overQuiet ts js report =
+-- Rule 4. A job that is already over must have entry 0.
+unfoldable pub overEntriesZero : Tasks → Jobs → List ℕ → Bool
+overEntriesZero ts js report =
     every (λ i. not (jobAt ts js i .over) || eqb (getD report i 0) 0) (upTo (ts .count) (λ i. i))
 
--- 4. The tick begins with its speed as what is left.
-unfoldable pub begun : Jobs → ℕ → Settling
-begun js speed = record { jobs = js; grants = upTo mostTasks (λ i. cycles 0); left = cycles speed; cut = 0 }
+-- Rule 4. At the start of the settlement what is left is the tick's speed, the cycles of one tick at it.
+unfoldable pub atTickStart : Jobs → ℕ → Settling
+atTickStart js speed = record { jobs = js; grants = upTo mostTasks (λ i. cycles 0); left = cycles speed; cut = 0 }
 
 -- a tick at a speed, settled; and whether no entry breaks rule 4
 unfoldable pub settled : State → ℕ → List ℕ → Settling
-settled s speed report = settleAll (s .tasks) report (orderOf s) (begun (s .jobs) speed)
+settled s speed report = settleAll (s .tasks) report (orderOf s) (atTickStart (s .jobs) speed)
 
 unfoldable pub keepsRule4 : State → ℕ → List ℕ → Bool
 keepsRule4 s speed report =
-    overQuiet (s .tasks) (s .jobs) report && allAllowed (s .tasks) report (orderOf s) (begun (s .jobs) speed)
+    overEntriesZero (s .tasks) (s .jobs) report && allAllowed (s .tasks) report (orderOf s) (atTickStart (s .jobs) speed)

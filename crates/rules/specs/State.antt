@@ -1,4 +1,4 @@
--- "arrays of fixed length": what stands at a place of the state, and the lists of its first places.
+-- "arrays of fixed length": what stands at a place of the state, and the lists of its first places. Places count from 0: task 1 stands at place 0.
 use Prim.Native.Nat.{ℕ, _-_}
 use mathlib.Core.Bool.{Bool, false}
 use mathlib.Core.List.{List}
@@ -12,7 +12,7 @@ use Rattle.rules.specs.declared.Tally.{Tally}
 use Rattle.rules.specs.declared.State.{State}
 use Rattle.rules.specs.Words.{upTo}
 
--- the period, reserve, speed, volts and count at a place; 0 past the last
+-- the period and the reserve of the task at a place, the speed and the volts at a place, and the cycles counted at that speed; 0 past the array's end
 unfoldable pub periodAt : Tasks → ℕ → ℕ
 periodAt ts i = getD (ts .periods) i (ticks 0) .0
 
@@ -26,9 +26,9 @@ unfoldable pub voltsAt : Ladder → ℕ → ℕ
 voltsAt l i = getD (l .volts) i (volts 0) .0
 
 unfoldable pub countAt : Tally → ℕ → ℕ
-countAt y i = getD (y .counts) i (cycles 0) .0
+countAt tally i = getD (tally .counts) i (cycles 0) .0
 
--- task i with its current job, and the jobs with another run count and mark for task i
+-- the task at place i with its current job, and the jobs with another run count and mark there
 unfoldable pub jobAt : Tasks → Jobs → ℕ → Job
 jobAt ts js i =
     record {
@@ -41,7 +41,7 @@ jobAt ts js i =
 unfoldable pub putAt : Jobs → ℕ → ℕ → Bool → Jobs
 putAt js i run over = record { run = set (js .run) i (cycles run); over = set (js .over) i over }
 
--- the lists of the tasks and of the speeds that are there
+-- the lists of the first places, as many as the count says
 unfoldable pub jobsOf : Tasks → Jobs → List Job
 jobsOf ts js = upTo (ts .count) (jobAt ts js)
 

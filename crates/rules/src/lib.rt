@@ -1,4 +1,4 @@
-// The state of a head and the answers of the four calls, as plain values. Document 01's rules on them are the definitions in specs/.
+// The governor's state and the answers of the four calls, as plain values. Document 01's rules on them are the definitions in specs/.
 use units::Cycles;
 use units::Speed;
 use units::Ticks;

@@ -1,21 +1,21 @@
--- `demand` is the sum of rule 7: what is summed so far and the sum from `i` on make the whole, and each term is at most 10 ^ 15.
+-- `full_load` is the sum of rule 7: what is summed so far and the sum from `i` on make the whole, and each term is at most 10 ^ 15.
 use borrow.Author.Needs.{needs}
 use mathlib.Core.Path.{_≡_, refl, sym, ap, _∙_}
 use Prim.Native.Nat.{ℕ, _+_, _-_, _*_, _≤_, _<_}
 use native.Mathlib.Omega.{arith}
 use lib.ListN.{length, getD, drop}
 use Rattle.units.specs.Units.{cycles}
-use Rattle.rules.specs.Admission.{demand}
-use Rattle.admission.specs.Verdict.{demandOf}
-use Rattle.admission.proofs.Sums.{mostTerm, demand-on, demand-end, period-pos, term-most}
-use Rattle.admission.proofs.lists.demand.Statement.{statement}
-use Rattle.admission.proofs.lists.demand.Tie as tie
+use Rattle.rules.specs.Admission.{fullLoad}
+use Rattle.admission.specs.Verdict.{fullLoadOf}
+use Rattle.admission.proofs.Sums.{mostTerm, full-on, full-end, period-pos, term-most}
+use Rattle.admission.proofs.lists.full_load.Statement.{statement}
+use Rattle.admission.proofs.lists.full_load.Tie as tie
 
 abbrev Inv-loop : tie.InvT-loop
 Inv-loop periods reserves great sum₀ i₀ sum i =
     (i ≤ length periods)
     × (sum .0 ≤ i * mostTerm)
-    × (sum .0 + demand (great .0) (drop i periods) (drop i reserves) ≡ demand (great .0) periods reserves)
+    × (sum .0 + fullLoad (great .0) (drop i periods) (drop i reserves) ≡ fullLoad (great .0) periods reserves)
 
 abbrev μ-loop : tie.MeasureT-loop
 μ-loop periods reserves great sum₀ i₀ sum i = length periods - i
@@ -78,20 +78,20 @@ loop-again c =
     let k : w .i < length (a .reserves .now) = omega (arith, s .paired) in (
       omega arith,
       omega (arith, term-most (a .great) (a .periods .now) (a .reserves .now) s (w .i) h),
-      omega (arith, w .inv .2, demand-on (a .great) (a .periods .now) (a .reserves .now) (w .i) h k),
+      omega (arith, w .inv .2, full-on (a .great) (a .periods .now) (a .reserves .now) (w .i) h k),
     )
 
 returns : tie.Need-returns Inv-loop μ-loop
-unfolding demandOf
+unfolding fullLoadOf
 returns c =
     let at = c .before in
     let a = at .before .args in
     let w = at .loop in
     let s = at .before .pre in
-    ap cycles (omega (arith, w .inv .2, demand-end (a .great) (a .periods .now) (a .reserves .now) (w .i) (c .loop-test .left) (omega (arith, s .paired))))
+    ap cycles (omega (arith, w .inv .2, full-end (a .great) (a .periods .now) (a .reserves .now) (w .i) (c .loop-test .left) (omega (arith, s .paired))))
 
-pub demand-spec : {M : Type 1} → statement M
-demand-spec =
+pub full-load-spec : {M : Type 1} → statement M
+full-load-spec =
     tie.close
     (tie.spec
     Inv-loop
