@@ -1,5 +1,5 @@
 -- The verdict of each number, and what the tests before rule 7 make of its sum.
-use mathlib.Core.Path.{_≡_, refl, sym, _∙_}
+use mathlib.Core.Path.{_≡_}
 use mathlib.Core.List.{List}
 use Prim.Native.Nat.{ℕ, _*_, _≤_, _<_}
 use native.Mathlib.Omega.{arith}
@@ -11,7 +11,8 @@ use Rattle.rules.specs.State.{topOf}
 use Rattle.rules.specs.Admission.{greatOf, fullLoad, admitted}
 use Rattle.rules.specs.Numbers.{startNumber}
 use Rattle.rules.proofs.Tables.{Forms, Passes, match-most, match-same, number-0}
-use Rattle.admission.specs.Verdict.{verdictOf, refusal, Formed, Summable}
+use Rattle.admission.specs.Parts.{Formed, Summable}
+use Rattle.admission.specs.Verdict.{verdictOf, refusal}
 
 -- rule 7 as `admits` tests it
 pub admits-is : (ps cs ss : List ℕ) (great : Ticks) → great .0 ≡ greatOf ps → leb (fullLoad (great .0) ps cs) (topOf ss * great .0) ≡ admitted ps cs ss

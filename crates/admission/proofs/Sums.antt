@@ -1,18 +1,16 @@
 -- The sum of rule 7 from a place on, and that no part of it passes 2 ^ 64: at most 16 terms, each at most 10 ^ 9 x 10 ^ 6.
-use mathlib.Core.Path.{_≡_, refl, sym, ap, _∙_}
-use mathlib.Core.Bool.{Bool, true, false}
-use mathlib.Core.List.{List, [], _∷_}
-use Prim.Native.Nat.{ℕ, _+_, _-_, _*_, _/_, _^_, _≤_, _<_}
+use mathlib.Core.Path.{_≡_}
+use mathlib.Core.List.{List}
+use Prim.Native.Nat.{ℕ, _+_, _*_, _/_, _≤_, _<_}
 use native.Mathlib.Nat.{mul-le-mul, div-le-self, le-trans}
 use native.Mathlib.Omega.{arith}
 use lib.ListN.{length, getD, drop, drop-of-length-le}
 use Rattle.units.specs.declared.Ticks.{Ticks}
-use Rattle.rules.specs.Words.{every}
-use Rattle.rules.specs.Limits.{mostTasks, mostPeriod, mostReserve, mostGreat, upToMost}
+use Rattle.rules.specs.Limits.{mostPeriod, mostReserve, upToMost}
 use Rattle.rules.specs.Admission.{fullLoad}
 use Rattle.rules.proofs.Lists.{rest-cons, every-at}
 use Rattle.rules.proofs.Ranges.{range-from, range-to}
-use Rattle.admission.specs.Verdict.{Summable}
+use Rattle.admission.specs.Parts.{Summable}
 
 -- the most that one term comes to
 abbrev pub mostTerm : ℕ

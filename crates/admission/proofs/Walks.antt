@@ -1,20 +1,18 @@
 -- One turn of each walk over a list: what is left of the test, in the rest-form that the loops keep.
-use mathlib.Core.Path.{_≡_, refl, sym, ap, _∙_}
-use mathlib.Core.Bool.{Bool, true, false, _&&_}
+use mathlib.Core.Path.{_≡_, refl, sym, _∙_}
+use mathlib.Core.Bool.{Bool, true, false}
 use mathlib.Core.List.{List, [], _∷_}
 use Prim.Native.Nat.{ℕ, _+_, _≤_, _<_}
 use native.Mathlib.Nat.{add-zero}
-use native.Mathlib.Numerals.{add-one}
 use native.Mathlib.Omega.{arith}
 use lib.Dec.{eqb, leb, ltb}
 use lib.ListN.{length, getD, drop, drop-of-length-le}
 use borrow.Author.Tests.{le-leb, lt-leb, lt-ltb, le-ltb}
-use Rattle.rules.specs.Words.{every}
-use Rattle.rules.specs.Limits.{mostSpeed, mostVolts, upToMost}
+use Rattle.rules.specs.Limits.{mostSpeed, mostVolts}
 use Rattle.rules.specs.Numbers.{sameCount, speedsRise, voltsNeverFall}
 use Rattle.rules.proofs.Lists.{rest-cons}
 use Rattle.rules.proofs.Ranges.{in-range, too-low, too-high}
-use Rattle.admission.specs.Verdict.{climbsFrom}
+use Rattle.admission.specs.Parts.{climbsFrom}
 
 -- `counts_match`: too few, too many, or as the second list says
 pub none-match : (most : ℕ) (xs ys : List ℕ) → length xs < 1 → false ≡ sameCount most xs ys

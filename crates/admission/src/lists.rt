@@ -4,11 +4,11 @@ ghost use Prim.Native.Nat.{_≤_};
 ghost use Rattle.rules.specs.Words.{every};
 ghost use Rattle.rules.specs.Limits.{upToMost};
 ghost use Rattle.rules.specs.Numbers.{sameCount};
-ghost use Rattle.admission.specs.Verdict.{climbsFrom, Summable, fullLoadOf};
+ghost use Rattle.admission.specs.Parts.{climbsFrom, Summable, fullLoadOf};
 use units::Cycles;
 use units::Ticks;
 
-// 1, 2: whether a list has from 1 to `most` places, and a second list as many.
+// No. 1, 2: whether a list has from 1 to `most` entries, and a second list as many.
 pub(crate) fn counts_match(first: &[u64], second: &[u64], most: usize) -> bool
     ensures { λ r. ⌜ r ≡ sameCount most (now (first .entry)) (now (second .entry)) ⌝ }
 {
@@ -22,7 +22,7 @@ pub(crate) fn counts_match(first: &[u64], second: &[u64], most: usize) -> bool
     second.len() == n
 }
 
-// 3, 4: whether each number of a list is from 1 to `most`.
+// No. 3, 4: whether each number of a list is from 1 to `most`.
 pub(crate) fn all_allowed(list: &[u64], most: u64) -> bool
     ensures { λ r. ⌜ r ≡ every (upToMost most) (now (list .entry)) ⌝ }
 {
@@ -40,7 +40,7 @@ pub(crate) fn all_allowed(list: &[u64], most: u64) -> bool
     true
 }
 
-// 5, 6: whether each number of a list is from 1 to `most` and at least `gap` above the one before.
+// No. 5, 6: whether each number of a list is from 1 to `most` and at least `gap` above the one before.
 pub(crate) fn climbs(list: &[u64], most: u64, gap: u64) -> bool
     requires { ⌜ (most ≤ 1000000) × (gap ≤ 1) ⌝ }
     ensures { λ r. ⌜ r ≡ climbsFrom most gap 0 (now (list .entry)) ⌝ }

@@ -5,7 +5,7 @@ ghost use lib.Dec.{leb};
 ghost use lib.ListN.{length};
 ghost use Rattle.rules.specs.State.{topOf};
 ghost use Rattle.rules.specs.Admission.{fullLoad};
-ghost use Rattle.admission.specs.Verdict.{Formed, Summable};
+ghost use Rattle.admission.specs.Parts.{Formed, Summable};
 use crate::lists;
 use units::Speed;
 use units::Ticks;

@@ -1,5 +1,5 @@
 -- Euclid's divisions reach the greatest common divisor, the quotient by it gives the least common multiple, and there is one of each. Assumes nothing.
-use mathlib.Core.Path.{_≡_, refl, sym, ap, subst, _∙_}
+use mathlib.Core.Path.{_≡_, sym, ap, subst, _∙_}
 use mathlib.Core.List.{List, [], _∷_}
 use Prim.Native.Nat.{ℕ, zero, suc, suc-le-suc, _*_, _/_, _%_, _≤_, _<_, _∣_}
 use native.Mathlib.Nat.{dvd-refl, dvd-zero, one-dvd, dvd-trans, dvd-antisymm, dvd-mod-iff, dvd-mul-left, dvd-mul-right, mul-dvd-mul-left, mul-dvd-mul-right, dvd-of-mul-dvd-mul-left, dvd-of-mul-dvd-mul-right, mul-div-cancel', div-mul-cancel, mul-comm, mul-right-comm, zero-mul, zero-div, mul-pos, mod-lt, zero-lt-suc, pos-of-dvd-of-pos, not-suc-le-zero, le-of-suc-le-suc, le-trans, le-refl}

@@ -1,16 +1,15 @@
 -- The rows of start's table, taken apart and put together: what each number says of the tests, and what 0 says of all eight.
-use mathlib.Core.Path.{_≡_, refl, sym, _∙_}
-use mathlib.Core.Bool.{Bool, true, false, cond, not}
+use mathlib.Core.Path.{_≡_, refl, _∙_}
+use mathlib.Core.Bool.{Bool, true, false, not}
 use mathlib.Core.List.{List, [], _∷_}
-use Prim.Native.Nat.{ℕ, _*_, _≤_, _<_}
+use Prim.Native.Nat.{ℕ, _≤_, _<_}
 use native.Mathlib.Omega.{arith}
-use lib.Dec.{eqb, leb, ltb}
+use lib.Dec.{eqb, ltb}
 use lib.ListN.{length}
-use borrow.Author.Tests.{lt-ltb, le-ltb, ltb-false, leb-true, eqb-true, not-false}
+use borrow.Author.Tests.{lt-ltb, le-ltb, ltb-false, eqb-true, not-false}
 use Rattle.rules.specs.Words.{every, firstOf}
 use Rattle.rules.specs.Limits.{mostTasks, mostPeriod, mostReserve, mostSpeeds, mostGreat, upToMost}
-use Rattle.rules.specs.State.{topOf}
-use Rattle.rules.specs.Admission.{greatOf, fullLoad, admitted}
+use Rattle.rules.specs.Admission.{greatOf, admitted}
 use Rattle.rules.specs.Numbers.{sameCount, speedsRise, voltsNeverFall, startNumber}
 use Rattle.rules.proofs.Lists.{both-left, both-right}
 use Rattle.rules.proofs.Ranges.{range-from, range-to}

@@ -1,7 +1,6 @@
 -- "Load, choice, settlement", rules 5 and 6: counting, release and energy.
 use Prim.Native.Nat.{ℕ, zero, suc, _+_, _*_, _%_}
-use mathlib.Core.Bool.{Bool, false, cond}
-use mathlib.Core.List.{List}
+use mathlib.Core.Bool.{false, cond}
 use lib.Dec.{eqb}
 use lib.ListN.{set}
 use Rattle.units.specs.Units.{ticks, cycles}
@@ -17,12 +16,12 @@ use Rattle.rules.specs.State.{periodAt, jobAt, putAt, voltsAt, countAt}
 
 -- Rule 5. The cycles granted are added to the count of that tick's speed, idle cycles to the idle count. Rule 4: the jobs cut are counted.
 unfoldable pub counted : Tally → ℕ → Settling → Tally
-counted tally place done =
+counted tally place outcome =
     record {
-      counts = set (tally .counts) place (cycles (countAt tally place + total (λ (g : Cycles). g .0) (done .grants)));
-      idle = cycles (tally .idle .0 + done .left .0);
+      counts = set (tally .counts) place (cycles (countAt tally place + total (λ (g : Cycles). g .0) (outcome .grants)));
+      idle = cycles (tally .idle .0 + outcome .left .0);
       late = tally .late;
-      cut = tally .cut + done .cut;
+      cut = tally .cut + outcome .cut;
     }
 
 -- Rule 5. A task whose period divides t is released: a job not over is counted as late and dropped, the new one has run 0.
@@ -37,12 +36,12 @@ unfoldable pub releases : Tasks → ℕ → ℕ → Releasing → Releasing
 releases ts t zero sofar = sofar
 releases ts t (suc n) sofar = releaseAt ts t n (releases ts t n sofar)
 
--- Rule 5. The state after a tick at the speed of a place: t grows by 1, and each task whose period divides the new t is released.
+-- Rule 5. The state after a tick at the speed of a place, with what its settlement came to: t grows by 1, and each task whose period divides the new t is released.
 unfoldable pub nextOf : State → ℕ → Settling → State
-nextOf s place done =
+nextOf s place outcome =
     let t = s .done .0 + 1 in
-    let tally = counted (s .tally) place done in
-    let r = releases (s .tasks) t (s .tasks .count) (record { jobs = done .jobs; late = tally .late }) in
+    let tally = counted (s .tally) place outcome in
+    let r = releases (s .tasks) t (s .tasks .count) (record { jobs = outcome .jobs; late = tally .late }) in
     record {
       done = ticks t;
       tasks = s .tasks;

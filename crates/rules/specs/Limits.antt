@@ -3,27 +3,35 @@ use Prim.Native.Nat.{ℕ}
 use mathlib.Core.Bool.{Bool, _&&_}
 use lib.Dec.{leb}
 
+-- tasks: 1 to 16
 abbrev pub mostTasks : ℕ
 mostTasks = 16
 
+-- period, ticks: 1 to 1,000,000
 abbrev pub mostPeriod : ℕ
 mostPeriod = 1_000_000
 
+-- reserve, cycles per job: 1 to 1,000,000,000
 abbrev pub mostReserve : ℕ
 mostReserve = 1_000_000_000
 
+-- speeds: 1 to 8,
 abbrev pub mostSpeeds : ℕ
 mostSpeeds = 8
 
+-- each 1 to 1,000,000, strictly rising
 abbrev pub mostSpeed : ℕ
 mostSpeed = 1_000_000
 
+-- volts, one per speed: 1 to 100, never falling
 abbrev pub mostVolts : ℕ
 mostVolts = 100
 
+-- great period: at most 1,000,000
 abbrev pub mostGreat : ℕ
 mostGreat = 1_000_000
 
+-- ticks in one run: at most 1,000,000,000
 abbrev pub mostTicks : ℕ
 mostTicks = 1_000_000_000
 

@@ -42,7 +42,7 @@ isCut left u j = byBullet left u false (usesUp left j) false
 unfoldable pub isOver : ℕ → ℕ → Job → Bool
 isOver left u j = byBullet left u false (usesUp left j) true
 
--- what is settled so far, and after the ready job at place i is settled with entry u
+-- Rule 4. What is settled once the ready job at place i is too, with entry u, from what is settled so far.
 unfoldable pub settleAt : Tasks → ℕ → ℕ → Settling → Settling
 settleAt ts i u sofar =
     let j = jobAt ts (sofar .jobs) i in

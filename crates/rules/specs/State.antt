@@ -9,7 +9,6 @@ use Rattle.rules.specs.declared.Jobs.{Jobs}
 use Rattle.rules.specs.declared.Job.{Job}
 use Rattle.rules.specs.declared.Ladder.{Ladder}
 use Rattle.rules.specs.declared.Tally.{Tally}
-use Rattle.rules.specs.declared.State.{State}
 use Rattle.rules.specs.Words.{upTo}
 
 -- the period and the reserve of the task at a place, the speed and the volts at a place, and the cycles counted at that speed; 0 past the array's end

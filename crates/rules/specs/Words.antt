@@ -1,6 +1,6 @@
 -- The few words on lists that the rules are written in.
 use Prim.Native.Nat.{ℕ, zero, suc, _+_}
-use mathlib.Core.Bool.{Bool, true, false, cond, _&&_}
+use mathlib.Core.Bool.{Bool, true, cond, _&&_}
 use mathlib.Core.List.{List, [], _∷_}
 
 -- the values of f at 0, 1, .. up to n - 1

@@ -2,7 +2,7 @@
 use mathlib.Core.Path.{_≡_, refl, sym, ap, _∙_}
 use mathlib.Core.Bool.{Bool, true, false}
 use Prim.Native.Nat.{ℕ, _*_, _/_, _^_, _≤_, _<_, min}
-use native.Mathlib.Nat.{mul-le-mul, mul-comm, mul-zero, min-eq-left, min-eq-right, div-lt-iff-lt-mul, le-div-iff-mul-le, lt-of-le-of-lt, le-pred-of-lt, le-of-lt}
+use native.Mathlib.Nat.{mul-le-mul, mul-zero, min-eq-left, min-eq-right, div-lt-iff-lt-mul, le-div-iff-mul-le, lt-of-le-of-lt, le-of-lt}
 use native.Mathlib.Omega.{arith}
 use lib.Dec.{lit<, leb}
 use borrow.Author.Tests.{le-leb, lt-leb, leb-true, leb-false}

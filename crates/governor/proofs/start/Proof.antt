@@ -1,6 +1,6 @@
 -- `start` is the verdict on its table with the state that goes with it; a verdict of 0 gives the lengths that the arrays need.
 use borrow.Author.Needs.{needs}
-use mathlib.Core.Path.{_≡_, ap, ap₂, _∙_}
+use mathlib.Core.Path.{ap₂, _∙_}
 use Rattle.rules.specs.Limits.{mostTasks, mostSpeeds}
 use Rattle.rules.specs.Calls.{freshState}
 use Rattle.rules.proofs.Tables.{passes, match-most, match-same}

@@ -1,9 +1,9 @@
 -- `all_allowed` tests every place: what is left to test from `i` on is the whole test.
 use borrow.Author.Needs.{needs}
 use mathlib.Core.Path.{_≡_, refl, sym, _∙_}
-use Prim.Native.Nat.{ℕ, _-_, _≤_, _<_}
+use Prim.Native.Nat.{_-_, _≤_}
 use native.Mathlib.Omega.{arith}
-use lib.ListN.{length, getD, drop}
+use lib.ListN.{length, drop}
 use Rattle.rules.specs.Words.{every}
 use Rattle.rules.specs.Limits.{upToMost}
 use Rattle.rules.proofs.Lists.{every-on, every-stop, every-end}

@@ -1,10 +1,10 @@
 -- `climbs` tests every place against the one before: what is left to test from `i` on, after the number before, is the whole test.
 use borrow.Author.Needs.{needs}
 use mathlib.Core.Path.{_≡_, refl, sym, _∙_}
-use Prim.Native.Nat.{ℕ, _-_, _≤_, _<_}
+use Prim.Native.Nat.{_-_, _≤_}
 use native.Mathlib.Omega.{arith}
-use lib.ListN.{length, getD, drop}
-use Rattle.admission.specs.Verdict.{climbsFrom}
+use lib.ListN.{length, drop}
+use Rattle.admission.specs.Parts.{climbsFrom}
 use Rattle.admission.proofs.Walks.{climb-on, climb-low, climb-high, climb-short, climb-end}
 use Rattle.admission.proofs.lists.climbs.Statement.{statement}
 use Rattle.admission.proofs.lists.climbs.Tie as tie

@@ -1,5 +1,4 @@
 -- `counts_match` is `sameCount`: each answer is one case of the test.
-use borrow.Author.Needs.{needs}
 use Rattle.admission.proofs.Walks.{none-match, many-match, some-match}
 use Rattle.admission.proofs.lists.counts_match.Statement.{statement}
 use Rattle.admission.proofs.lists.counts_match.Tie as tie

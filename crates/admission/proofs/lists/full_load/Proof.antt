@@ -1,12 +1,12 @@
 -- `full_load` is the sum of rule 7: what is summed so far and the sum from `i` on make the whole, and each term is at most 10 ^ 15.
 use borrow.Author.Needs.{needs}
-use mathlib.Core.Path.{_≡_, refl, sym, ap, _∙_}
-use Prim.Native.Nat.{ℕ, _+_, _-_, _*_, _≤_, _<_}
+use mathlib.Core.Path.{_≡_, ap}
+use Prim.Native.Nat.{_+_, _-_, _*_, _≤_, _<_}
 use native.Mathlib.Omega.{arith}
-use lib.ListN.{length, getD, drop}
+use lib.ListN.{length, drop}
 use Rattle.units.specs.Units.{cycles}
 use Rattle.rules.specs.Admission.{fullLoad}
-use Rattle.admission.specs.Verdict.{fullLoadOf}
+use Rattle.admission.specs.Parts.{fullLoadOf}
 use Rattle.admission.proofs.Sums.{mostTerm, full-on, full-end, period-pos, term-most}
 use Rattle.admission.proofs.lists.full_load.Statement.{statement}
 use Rattle.admission.proofs.lists.full_load.Tie as tie

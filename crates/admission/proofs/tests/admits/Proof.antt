@@ -5,7 +5,7 @@ use Prim.Native.Nat.{_*_}
 use lib.Dec.{leb}
 use Rattle.units.specs.declared.Cycles.{Cycles}
 use Rattle.rules.specs.State.{topOf}
-use Rattle.admission.specs.Verdict.{fullLoadOf}
+use Rattle.admission.specs.Parts.{fullLoadOf}
 use Rattle.admission.proofs.tests.admits.Statement.{statement}
 use Rattle.admission.proofs.tests.admits.Tie as tie
 
