@@ -1,3 +1,11 @@
+pub mod Fresh
+pub mod Keeps
 pub mod Lists
+pub mod Orders
+pub mod Places
 pub mod Ranges
+pub mod Releases
+pub mod Settles
+pub mod Shares
+pub mod Soundness
 pub mod Tables

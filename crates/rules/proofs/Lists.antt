@@ -1,12 +1,12 @@
 -- The laws of `upTo` and `every`: lengths, places, stores and rests, each by induction on the list or on its number of places.
 use mathlib.Core.Path.{_≡_, refl, sym, ap, _∙_}
 use mathlib.Core.Bool.{Bool, true, false, false≢true, _&&_}
-use mathlib.Core.List.{List, [], _∷_}
-use Prim.Native.Nat.{ℕ, zero, suc, suc-le-suc, _+_, _≤_, _<_}
+use mathlib.Core.List.{List, [], _∷_, map}
+use Prim.Native.Nat.{ℕ, zero, suc, zero-le, suc-le-suc, _+_, _≤_, _<_}
 use native.Mathlib.Nat.{le-of-suc-le-suc, not-suc-le-zero, zero-lt-suc}
 use native.Mathlib.Decide.{ℕ-discrete}
 use native.Mathlib.Numerals.{add-one}
-use lib.ListN.{length, getD, drop, set, length-set, drop-of-length-le}
+use lib.ListN.{length, getD, drop, set, length-set, length-map, drop-of-length-le}
 use lib.Seq.{drop-cons, ext-getD, getD-set-same, getD-set-other}
 use Rattle.rules.specs.Words.{upTo, every}
 
@@ -18,6 +18,10 @@ both-left false b e = e
 pub both-right : (a b : Bool) → (a && b) ≡ true → b ≡ true
 both-right true b e = e
 both-right false b e = absurd (false≢true e)
+
+-- an array of a struct's field has its places, whatever its entries are seen as
+pub length-mapped : (A B : Type 0) (f : A → B) (l : List A) (n : ℕ) → length (map f l) ≡ n → length l ≡ n
+length-mapped A B f l n e = sym (length-map l f) ∙ e
 
 module _ {A : Type 0} where
   pub length-upTo : (n : ℕ) (f : ℕ → A) → length (upTo n f) ≡ n
@@ -92,9 +96,53 @@ module _ {A : Type 0} where
   unfolding every
   every-end q l i h = rw (drop-of-length-le l {i = i} h)
 
+  -- a test that holds of every entry holds of the first, and of every entry of the rest
+  pub every-first : (q : A → Bool) (x : A) (l : List A) → every q (x ∷ l) ≡ true → q x ≡ true
+  unfolding every
+  every-first q x l e = both-left (q x) (every q l) e
+
+  pub every-rest : (q : A → Bool) (x : A) (l : List A) → every q (x ∷ l) ≡ true → every q l ≡ true
+  unfolding every
+  every-rest q x l e = both-right (q x) (every q l) e
+
   -- what holds of every place holds of each
   pub every-at : (q : A → Bool) (l : List A) (d : A) (i : ℕ) → every q l ≡ true → i < length l → q (getD l i d) ≡ true
   unfolding every
   every-at q [] d i e h = absurd (not-suc-le-zero h)
   every-at q (x ∷ l) d zero e h = both-left (q x) (every q l) e
   every-at q (x ∷ l) d (suc i) e h = every-at q l d i (both-right (q x) (every q l) e) (le-of-suc-le-suc h)
+
+  -- what holds of each place holds of every one
+  pub every-all : (q : A → Bool) (l : List A) (d : A) → ((i : ℕ) → i < length l → q (getD l i d) ≡ true) → every q l ≡ true
+  unfolding every
+  every-all q [] d e = refl
+  every-all q (x ∷ l) d e =
+      let head : q x ≡ true = e 0 (zero-lt-suc (length l)) in
+      rw (head, every-all q l d (λ i h. e (suc i) (suc-le-suc h)))
+
+  -- the same for the values of a function: all of them, and those from the place n on
+  pub upTo-at : (q : A → Bool) (m : ℕ) (f : ℕ → A) → every q (upTo m f) ≡ true → (i : ℕ) → i < m → q (f i) ≡ true
+  upTo-at q m f e i h =
+      let at : q (getD (upTo m f) i (f i)) ≡ true = every-at q (upTo m f) (f i) i e (rw (length-upTo m f) h) in
+      rw (getD-upTo m f i (f i) h) at at
+
+  pub upTo-all : (q : A → Bool) (m : ℕ) (f : ℕ → A) → ((i : ℕ) → i < m → q (f i) ≡ true) → every q (upTo m f) ≡ true
+  unfolding upTo every
+  upTo-all q zero f e = refl
+  upTo-all q (suc m) f e =
+      rw (e 0 (zero-lt-suc m), upTo-all q m (λ i. f (suc i)) (λ i h. e (suc i) (suc-le-suc h)))
+
+  pub rest-at : (q : A → Bool) (n m : ℕ) (f : ℕ → A) → every q (drop n (upTo m f)) ≡ true → (i : ℕ) → n ≤ i → i < m → q (f i) ≡ true
+  unfolding upTo
+  rest-at q zero m f e i a h = upTo-at q m f e i h
+  rest-at q (suc n) zero f e i a h = absurd (not-suc-le-zero h)
+  rest-at q (suc n) (suc m) f e zero a h = absurd (not-suc-le-zero a)
+  rest-at q (suc n) (suc m) f e (suc i) a h =
+      rest-at q n m (λ k. f (suc k)) e i (le-of-suc-le-suc a) (le-of-suc-le-suc h)
+
+  pub rest-all : (q : A → Bool) (n m : ℕ) (f : ℕ → A) → ((i : ℕ) → n ≤ i → i < m → q (f i) ≡ true) → every q (drop n (upTo m f)) ≡ true
+  unfolding upTo every
+  rest-all q zero m f e = upTo-all q m f (λ i h. e i zero-le h)
+  rest-all q (suc n) zero f e = refl
+  rest-all q (suc n) (suc m) f e =
+      rest-all q n m (λ i. f (suc i)) (λ i a h. e (suc i) (suc-le-suc a) (suc-le-suc h))

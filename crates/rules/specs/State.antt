@@ -1,5 +1,6 @@
 -- "arrays of fixed length": what stands at a place of the state, and the lists of its first places. Places count from 0: task 1 stands at place 0.
 use Prim.Native.Nat.{ℕ, _-_}
+use mathlib.Core.Path.{_≡_}
 use mathlib.Core.Bool.{Bool, false}
 use mathlib.Core.List.{List}
 use lib.ListN.{getD, set, length}
@@ -9,7 +10,9 @@ use Rattle.rules.specs.declared.Jobs.{Jobs}
 use Rattle.rules.specs.declared.Job.{Job}
 use Rattle.rules.specs.declared.Ladder.{Ladder}
 use Rattle.rules.specs.declared.Tally.{Tally}
+use Rattle.rules.specs.declared.State.{State}
 use Rattle.rules.specs.Words.{upTo}
+use Rattle.rules.specs.Limits.{mostTasks, mostSpeeds}
 
 -- the period and the reserve of the task at a place, the speed and the volts at a place, and the cycles counted at that speed; 0 past the array's end
 unfoldable pub periodAt : Tasks → ℕ → ℕ
@@ -59,3 +62,13 @@ voltsOf l = upTo (l .count) (voltsAt l)
 -- the top speed is the last of the list
 unfoldable pub topOf : List ℕ → ℕ
 topOf ss = getD ss (length ss - 1) 0
+
+-- "arrays of fixed length": sixteen places on the task side, eight on the speed side, as the types of the arrays say
+pub record Shaped (s : State) : Type 0 where
+  pub periods : length (s .tasks .periods) ≡ mostTasks
+  pub reserves : length (s .tasks .reserves) ≡ mostTasks
+  pub runs : length (s .jobs .run) ≡ mostTasks
+  pub marks : length (s .jobs .over) ≡ mostTasks
+  pub speeds : length (s .ladder .speeds) ≡ mostSpeeds
+  pub volts : length (s .ladder .volts) ≡ mostSpeeds
+  pub counts : length (s .tally .counts) ≡ mostSpeeds

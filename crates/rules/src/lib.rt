@@ -1,4 +1,6 @@
 // The governor's state and the answers of the four calls, as plain values. Document 01's rules on them are the definitions in specs/.
+ghost use mathlib.Core.Path.{_≡_};
+ghost use Rattle.rules.specs.State.{jobAt};
 use units::Cycles;
 use units::Speed;
 use units::Ticks;
@@ -50,6 +52,17 @@ pub struct State {
     pub tally: Tally,
 }
 
+// Rule 1: each task's deadline at a tick.
+pub struct Dues {
+    pub at: [Ticks; 16],
+}
+
+// Rule 3: the places of the ready tasks in their order, zero past the last.
+pub struct Order {
+    pub count: usize,
+    pub places: [usize; 16],
+}
+
 // A tick being settled: the jobs and grants so far, the cycles left, the jobs cut.
 pub struct Settling {
     pub jobs: Jobs,
@@ -93,4 +106,28 @@ pub struct Ticked {
 pub struct Used {
     pub number: u64,
     pub energy: u64,
+}
+
+// The task at a place with its current job; nothing but zeros past the array's end.
+pub fn job_at(tasks: Tasks, jobs: Jobs, i: usize) -> Job
+    ensures { λ r. ⌜ r ≡ jobAt tasks jobs i ⌝ }
+{
+    if i >= 16 {
+        return Job {
+            period: Ticks(0),
+            reserve: Cycles(0),
+            run: Cycles(0),
+            over: false,
+        };
+    }
+    let periods = tasks.periods;
+    let reserves = tasks.reserves;
+    let run = jobs.run;
+    let over = jobs.over;
+    Job {
+        period: periods[i],
+        reserve: reserves[i],
+        run: run[i],
+        over: over[i],
+    }
 }

@@ -1,0 +1,137 @@
+-- A sound state goes to a sound state by a tick that keeps rule 4, at any speed up to the top one: each fact of soundness after the tick from those before it.
+use mathlib.Core.Path.{_≡_, refl, sym, ap, _∙_}
+use mathlib.Core.Bool.{Bool, true, false, cond, not, _&&_}
+use mathlib.Core.List.{List, []}
+use Prim.Native.Nat.{ℕ, _+_, _*_, _%_, _≤_, _<_}
+use native.Mathlib.Nat.{add-mul}
+use native.Mathlib.Omega.{arith}
+use lib.Dec.{eqb, ltb}
+use lib.ListN.{length, getD, set, length-set}
+use lib.Seq.{getD-set-other}
+use borrow.Author.Tests.{lt-ltb}
+use Rattle.units.specs.Units.{cycles}
+use Rattle.units.specs.declared.Cycles.{Cycles}
+use Rattle.rules.specs.declared.Job.{Job}
+use Rattle.rules.specs.declared.Settling.{Settling}
+use Rattle.rules.specs.declared.State.{State}
+use Rattle.rules.specs.Words.{total}
+use Rattle.rules.specs.Limits.{mostTasks, mostSpeeds, mostTicks}
+use Rattle.rules.specs.State.{Shaped, periodAt, reserveAt, speedAt, voltsAt, countAt, jobAt, speedsOf, topOf}
+use Rattle.rules.specs.Choice.{readyAt, deadlineAt, orderOf}
+use Rattle.rules.specs.Settlement.{atTickStart, settled, allAllowed}
+use Rattle.rules.specs.Counting.{counted, nextOf}
+use Rattle.rules.specs.Numbers.{runRight, unusedJob, unusedSpeed}
+use Rattle.rules.proofs.Orders.{order-below, order-apart, order-short, order-ready}
+use Rattle.rules.proofs.Places.{withRun, total-set}
+use Rattle.rules.proofs.Settles.{Settles, settles-all, settles-begun, grantsSum}
+use Rattle.rules.proofs.Releases.{afterRelease, releases-runs, releases-marks, releases-past, releases-at, releases-late}
+use Rattle.rules.proofs.Soundness.{Sound}
+
+-- a released job's run count is right, since its reserve is not 0
+released-right : (t p : ℕ) (j : Job) → 1 ≤ j .reserve .0 → runRight j ≡ true → runRight (afterRelease t p j) ≡ true
+unfolding afterRelease withRun runRight
+released-right t p j some r = go (eqb (t % p) 0)
+  where
+    go : (b : Bool) → runRight (cond b (withRun j 0 false) j) ≡ true
+    go true = lt-ltb 0 (j .reserve .0) some
+    go false = r
+
+-- the settlement of a tick that keeps rule 4
+pub settles : (s : State) → Sound s → Shaped s → (speed : ℕ) (report : List ℕ) → allAllowed (s .tasks) report (orderOf s) (atTickStart (s .jobs) speed) ≡ true → Settles (s .tasks) (s .jobs) (s .tasks .count) speed [] (settled s speed report)
+unfolding settled orderOf readyAt
+settles s f shape speed report a =
+    let n = s .tasks .count in
+    settles-all (s .tasks) (s .jobs) n speed report (orderOf s) (atTickStart (s .jobs) speed) (f .tasks-most) a
+    (settles-begun (s .tasks) (s .jobs) n speed (orderOf s) (shape .runs) (shape .marks) (f .tasks-most) (f .run-right) (order-ready (deadlineAt s) (readyAt s) n) (order-below (deadlineAt s) (readyAt s) n) (order-apart (deadlineAt s) (readyAt s) n) (order-short (deadlineAt s) (readyAt s) n))
+
+module _ (s : State) (f : Sound s) (shape : Shaped s) (place speed : ℕ) (report : List ℕ) (room : s .done .0 < mostTicks) (listed : place < s .ladder .count) (fast : speed ≤ topOf (speedsOf (s .ladder))) (lawful : allAllowed (s .tasks) report (orderOf s) (atTickStart (s .jobs) speed) ≡ true) where
+  outcome : Settling
+  outcome = settled s speed report
+
+  done-so : Settles (s .tasks) (s .jobs) (s .tasks .count) speed [] (settled s speed report)
+  done-so = settles s f shape speed report lawful
+
+  -- the job of each task after the tick, and of the places past the tasks
+  job-after : (i : ℕ) → i < s .tasks .count → jobAt (s .tasks) (nextOf s place (settled s speed report) .jobs) i ≡ afterRelease (s .done .0 + 1) (periodAt (s .tasks) i) (jobAt (s .tasks) (settled s speed report .jobs) i)
+  unfolding nextOf
+  job-after i h =
+      releases-at (s .tasks) (s .done .0 + 1) _ (s .tasks .count) i
+      (omega (arith, done-so .runs, f .tasks-most)) (omega (arith, done-so .marks, f .tasks-most)) h
+
+  job-past : (i : ℕ) → s .tasks .count ≤ i → jobAt (s .tasks) (nextOf s place (settled s speed report) .jobs) i ≡ jobAt (s .tasks) (s .jobs) i
+  unfolding nextOf
+  job-past i h = releases-past (s .tasks) (s .done .0 + 1) _ (s .tasks .count) i h ∙ done-so .others i h
+
+  some-reserve : (i : ℕ) → i < s .tasks .count → 1 ≤ jobAt (s .tasks) (settled s speed report .jobs) i .reserve .0
+  unfolding jobAt reserveAt
+  some-reserve i h = f .reserve-some i h
+
+  run-right-after : (i : ℕ) → i < s .tasks .count → runRight (jobAt (s .tasks) (nextOf s place (settled s speed report) .jobs) i) ≡ true
+  run-right-after i h =
+      rw (job-after i h)
+      (released-right (s .done .0 + 1) (periodAt (s .tasks) i) (jobAt (s .tasks) (settled s speed report .jobs) i) (some-reserve i h) (done-so .right i h))
+
+  unused-after : (i : ℕ) → s .ladder .count ≤ i → i < mostSpeeds → unusedSpeed (nextOf s place (settled s speed report)) i ≡ true
+  unfolding unusedSpeed nextOf counted countAt
+  unused-after i h m =
+      ap (λ (c : Cycles). eqb (speedAt (s .ladder) i) 0 && eqb (voltsAt (s .ladder) i) 0 && eqb (c .0) 0) (getD-set-other (s .tally .counts) place i _ (cycles 0) differs)
+      ∙ f .unused-speed i h m
+    where
+      differs : i ≡ place → ⊥
+      differs e = omega (arith, listed)
+
+  cycles-after : total (λ (c : Cycles). c .0) (nextOf s place (settled s speed report) .tally .counts) + nextOf s place (settled s speed report) .tally .idle .0 ≤ (s .done .0 + 1) * topOf (speedsOf (s .ladder))
+  unfolding nextOf counted countAt
+  cycles-after =
+      let sum = total-set (λ (c : Cycles). c .0) (s .tally .counts) place (cycles (getD (s .tally .counts) place (cycles 0) .0 + grantsSum (settled s speed report))) (cycles 0) (omega (arith, shape .counts, listed, f .speeds-most)) in
+      let more : (s .done .0 + 1) * topOf (speedsOf (s .ladder)) ≡ s .done .0 * topOf (speedsOf (s .ladder)) + 1 * topOf (speedsOf (s .ladder)) = add-mul (s .done .0) 1 (topOf (speedsOf (s .ladder))) in
+      omega (arith, sum, more, f .cycles-most, done-so .shared, fast)
+
+  late-after : nextOf s place (settled s speed report) .tally .late ≤ 16 * (s .done .0 + 1)
+  unfolding nextOf counted
+  late-after =
+      let more = releases-late (s .tasks) (s .done .0 + 1) (record { jobs = settled s speed report .jobs; late = s .tally .late }) (s .tasks .count) in
+      omega (arith, more, f .late-most, f .tasks-most)
+
+  cut-after : nextOf s place (settled s speed report) .tally .cut ≤ 16 * (s .done .0 + 1)
+  unfolding nextOf counted
+  cut-after = omega (arith, done-so .cuts, f .cut-most)
+
+  pub next-sound : Sound (nextOf s place (settled s speed report))
+  unfolding nextOf
+  next-sound =
+      record {
+        tasks-some = f .tasks-some;
+        tasks-most = f .tasks-most;
+        speeds-some = f .speeds-some;
+        speeds-most = f .speeds-most;
+        period-some = f .period-some;
+        period-most = f .period-most;
+        reserve-some = f .reserve-some;
+        reserve-most = f .reserve-most;
+        speeds-rise = f .speeds-rise;
+        volts-never-fall = f .volts-never-fall;
+        great-is = f .great-is;
+        great-most = f .great-most;
+        admits = f .admits;
+        run-right = run-right-after;
+        unused-job = λ i h m. rw (job-past i h) (f .unused-job i h m);
+        unused-speed = unused-after;
+        done-most = omega (arith, room);
+        cycles-most = cycles-after;
+        late-most = late-after;
+        cut-most = cut-after;
+      }
+
+  pub next-shaped : Shaped (nextOf s place (settled s speed report))
+  unfolding nextOf counted
+  next-shaped =
+      record {
+        periods = shape .periods;
+        reserves = shape .reserves;
+        runs = releases-runs (s .tasks) (s .done .0 + 1) _ (s .tasks .count) ∙ done-so .runs;
+        marks = releases-marks (s .tasks) (s .done .0 + 1) _ (s .tasks .count) ∙ done-so .marks;
+        speeds = shape .speeds;
+        volts = shape .volts;
+        counts = length-set (s .tally .counts) place _ ∙ shape .counts;
+      }
