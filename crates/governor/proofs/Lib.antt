@@ -1,2 +1,4 @@
+pub mod CountLaws
 pub mod Laid
+pub mod ReleaseLaws
 pub mod Starts

@@ -1,3 +1,4 @@
+pub mod Energies
 pub mod Fresh
 pub mod Keeps
 pub mod Lists

@@ -1,0 +1,69 @@
+-- The releases by deadlines are rule 5's, since a deadline is the new tick exactly where the period divides it; and the state after a tick.
+use mathlib.Core.Path.{_≡_, refl, ap}
+use mathlib.Core.Bool.{Bool, true, false, not}
+use mathlib.Core.List.{List}
+use Prim.Native.Nat.{ℕ, zero, suc, _+_, _%_, _≤_, _<_}
+use native.Mathlib.Nat.{add-zero}
+use native.Mathlib.Numerals.{add-one}
+use native.Mathlib.Omega.{arith}
+use lib.Dec.{eqb}
+use lib.ListN.{getD}
+use borrow.Author.Tests.{eq-eqb, ne-eqb, not-true, not-false}
+use Rattle.units.specs.Units.{ticks}
+use Rattle.units.specs.declared.Ticks.{Ticks}
+use Rattle.rules.specs.declared.Tasks.{Tasks}
+use Rattle.rules.specs.declared.Settling.{Settling}
+use Rattle.rules.specs.declared.Tally.{Tally}
+use Rattle.rules.specs.declared.State.{State}
+use Rattle.rules.specs.declared.Releasing.{Releasing}
+use Rattle.rules.specs.State.{periodAt, jobAt, putAt}
+use Rattle.rules.specs.Counting.{counted, releaseAt, releases, nextOf}
+use Rattle.governor.specs.Parts.{released, releasedTo}
+
+module _ (at : List Ticks) (next : ℕ) (sofar : Releasing) where
+  -- a turn: released, or not
+  pub due-now : (n : ℕ) → getD at n (ticks 0) .0 ≡ next → released n (releasedTo at next n sofar) ≡ releasedTo at next (n + 1) sofar
+  unfolding releasedTo
+  due-now n e = rw (add-one, eq-eqb _ _ e)
+
+  pub not-due : (n : ℕ) → (getD at n (ticks 0) .0 ≡ next → ⊥) → releasedTo at next n sofar ≡ releasedTo at next (n + 1) sofar
+  unfolding releasedTo
+  not-due n e = rw (add-one, ne-eqb _ _ e)
+
+  -- at most one more is late for each task
+  pub late-most : (n : ℕ) → releasedTo at next n sofar .late ≤ sofar .late + n
+  unfolding releasedTo released
+  late-most zero = omega arith
+  late-most (suc n) = go (eqb (getD at n (ticks 0) .0) next) (getD (releasedTo at next n sofar .jobs .over) n false) refl refl (late-most n)
+    where
+      go : (b o : Bool) → eqb (getD at n (ticks 0) .0) next ≡ b → getD (releasedTo at next n sofar .jobs .over) n false ≡ o → releasedTo at next n sofar .late ≤ sofar .late + n → releasedTo at next (suc n) sofar .late ≤ sofar .late + suc n
+      go true true e f h = rw (e, f) (omega (arith, h))
+      go true false e f h = rw (e, f) (omega (arith, h))
+      go false o e f h = rw e (omega (arith, h))
+
+  pub releases-are : (ts : Tasks) (n : ℕ) → ((i : ℕ) → i < n → eqb (getD at i (ticks 0) .0) next ≡ eqb (next % periodAt ts i) 0) → releasedTo at next n sofar ≡ releases ts next n sofar
+  unfolding releasedTo released releases releaseAt jobAt
+  releases-are ts zero h = refl
+  releases-are ts (suc n) h =
+      let before : releasedTo at next n sofar ≡ releases ts next n sofar = releases-are ts n (λ i l. h i (omega arith)) in
+      rw (h n (omega arith), before)
+
+-- one task released, by its mark
+module _ (sofar : Releasing) (i late : ℕ) where
+  pub late-one : not (getD (sofar .jobs .over) i false) ≡ true → late ≡ sofar .late + 1 → record { jobs = putAt (sofar .jobs) i 0 false; late = late } ≡ released i sofar
+  unfolding released
+  late-one o e = rw (not-true (getD (sofar .jobs .over) i false) o, e)
+
+  pub late-none : not (getD (sofar .jobs .over) i false) ≡ false → late ≡ sofar .late → record { jobs = putAt (sofar .jobs) i 0 false; late = late } ≡ released i sofar
+  unfolding released
+  late-none o e = rw (not-false (getD (sofar .jobs .over) i false) o, e, add-zero (sofar .late))
+
+-- the whole state after a tick, from its counts and its releases
+module _ (s : State) (place : ℕ) (outcome : Settling) (tally : Tally) (counts : tally ≡ counted (s .tally) place outcome) where
+  pub late-is : tally .late ≡ s .tally .late
+  unfolding counted
+  late-is = ap (λ (t : Tally). t .late) counts
+
+  pub next-is : (fresh : Releasing) → fresh ≡ releases (s .tasks) (s .done .0 + 1) (s .tasks .count) (record { jobs = outcome .jobs; late = tally .late }) → record { done = ticks (s .done .0 + 1); tasks = s .tasks; jobs = fresh .jobs; ladder = s .ladder; tally = record { counts = tally .counts; idle = tally .idle; late = fresh .late; cut = tally .cut } } ≡ nextOf s place outcome
+  unfolding nextOf
+  next-is fresh e = rw (e, counts)

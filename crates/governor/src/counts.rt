@@ -1,0 +1,64 @@
+// Rules 5 and 6: what a tick adds to the counts, its grants written out, and the energy of the counts.
+ghost use mathlib.Core.Path.{_≡_};
+ghost use Prim.Native.Nat.{_≤_};
+ghost use lib.ListN.{length, getD};
+ghost use Rattle.units.specs.Units.{cycles};
+ghost use Rattle.rules.specs.Words.{upTo};
+ghost use Rattle.rules.specs.Limits.{mostTasks};
+ghost use Rattle.rules.specs.Counting.{counted, energySum};
+ghost use Rattle.governor.specs.Parts.{Countable, Affordable};
+use rules::Ladder;
+use rules::Settling;
+use rules::Tally;
+use units::Cycles;
+use units::Speed;
+
+// Rule 5: the counts with a tick's: what was granted, all but what is left, at the place of its speed, the rest idle, the jobs cut.
+pub(crate) fn count_tick(tally: Tally, place: usize, speed: Speed, outcome: Settling) -> Tally
+    requires { ⌜ Countable tally place speed outcome ⌝ }
+    ensures { λ r. ⌜ r ≡ counted tally place outcome ⌝ }
+{
+    let mut counts = tally.counts;
+    let idle = tally.idle;
+    let left = outcome.left;
+    let before = counts[place];
+    counts[place] = Cycles(before.0 + (speed.0 - left.0));
+    Tally {
+        counts: counts,
+        idle: Cycles(idle.0 + left.0),
+        late: tally.late,
+        cut: tally.cut + outcome.cut,
+    }
+}
+
+// Each task's cycles written to the lent grants list.
+pub(crate) fn write_grants(shares: [Cycles; 16], grants: &mut [u64])
+    requires { ⌜ length (now grants) ≤ mostTasks ⌝ }
+    ensures { λ r. ⌜ now (grants .exit) ≡ upTo (length (now (grants .entry))) (λ i. getD shares i (cycles 0) .0) ⌝ }
+{
+    let mut i = 0;
+    while i < grants.len() {
+        let share = shares[i];
+        grants[i] = share.0;
+        i += 1;
+    }
+}
+
+// Rule 6: the sum over speeds of count x volts x volts.
+pub(crate) fn energy_of(ladder: Ladder, tally: Tally) -> u64
+    requires { ⌜ Affordable ladder tally ⌝ }
+    ensures { λ r. ⌜ r ≡ energySum ladder tally ⌝ }
+{
+    let volts = ladder.volts;
+    let counts = tally.counts;
+    let n = ladder.count;
+    let mut sum: u64 = 0;
+    let mut i = 0;
+    while i < n {
+        let count = counts[i];
+        let volt = volts[i];
+        sum += count.0 * volt.0 * volt.0;
+        i += 1;
+    }
+    sum
+}
