@@ -1,2 +1,2 @@
 pub mod Parts
-pub mod Start
+pub mod Refusals

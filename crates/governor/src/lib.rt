@@ -1,11 +1,19 @@
 // The speed governor's public calls. Each answers for every input, refusals too, as document 01's rules say; specs/ of `rules` has those.
 mod counts;
+mod refusals;
 mod releasing;
 mod tables;
 
 ghost use mathlib.Core.Path.{_≡_};
-ghost use Rattle.rules.specs.Calls.{startOf};
+ghost use lib.ListN.{length};
+ghost use Rattle.rules.specs.Calls.{startOf, nowOf, tickOf, grantsOf, energyOf};
+use rules::Choice;
 use rules::Started;
+use rules::State;
+use rules::Ticked;
+use rules::Told;
+use rules::Used;
+use units::Speed;
 
 // start: from lent lists of periods, reserves, speeds and volts to 0 and the fresh state, or to the smallest number of 1 to 8 that applies and the all-zero state.
 pub fn start(periods: &[u64], reserves: &[u64], speeds: &[u64], volts: &[u64]) -> Started
@@ -22,5 +30,95 @@ pub fn start(periods: &[u64], reserves: &[u64], speeds: &[u64], volts: &[u64]) -
     Started {
         number: 0,
         state: tables::fresh(tasks, ladder),
+    }
+}
+
+// now: from any state to the choice and the lowest speed that carries the load; refused (9, 10, 12), nothing chosen and speed 0.
+pub fn now(state: State) -> Told
+    ensures { λ r. ⌜ r ≡ nowOf state ⌝ }
+{
+    let survey = soundness::survey(state);
+    if !survey.sound {
+        return refusals::untold(9);
+    }
+    let done = state.done;
+    if 1000000000 <= done.0 {
+        return refusals::untold(10);
+    }
+    let tasks = state.tasks;
+    let ladder = state.ladder;
+    let place = choosing::lowest_place(ladder, tasks.great, survey.load);
+    if ladder.count <= place {
+        return refusals::untold(12);
+    }
+    let speeds = ladder.speeds;
+    let speed = speeds[place];
+    let dues = choosing::dues_of(done, tasks);
+    Told {
+        number: 0,
+        choice: choosing::earliest(dues, state.jobs, tasks.count),
+        speed: speed,
+    }
+}
+
+// tick: from any state and a report to the next state, each task's cycles written to the grants list; refused (9 to 13), the state given and the list as it was.
+pub fn tick(state: State, report: &[u64], grants: &mut [u64]) -> Ticked
+    ensures { λ r.
+        ⌜
+        (r ≡ tickOf state (now (report .entry)) (length (now (grants .entry))))
+        × (now (grants .exit) ≡ grantsOf state (now (report .entry)) (now (grants .entry)))
+        ⌝ }
+{
+    let survey = soundness::survey(state);
+    if !survey.sound {
+        return refusals::unticked(9, state);
+    }
+    let done = state.done;
+    if 1000000000 <= done.0 {
+        return refusals::unticked(10, state);
+    }
+    let tasks = state.tasks;
+    let n = tasks.count;
+    if report.len() != n {
+        return refusals::unticked(11, state);
+    }
+    if grants.len() != n {
+        return refusals::unticked(11, state);
+    }
+    let ladder = state.ladder;
+    let place = choosing::lowest_place(ladder, tasks.great, survey.load);
+    if ladder.count <= place {
+        return refusals::unticked(12, state);
+    }
+    let speeds = ladder.speeds;
+    let speed = speeds[place];
+    let dues = choosing::dues_of(done, tasks);
+    let settled = settlement::settle(tasks, state.jobs, dues, speed, report);
+    if !settled.lawful {
+        return refusals::unticked(13, state);
+    }
+    let outcome = settled.outcome;
+    let shares = outcome.grants;
+    counts::write_grants(shares, grants);
+    Ticked {
+        number: 0,
+        state: releasing::next_state(state, place, speed, dues, outcome),
+    }
+}
+
+// energy: from any state to the sum over speeds of count x volts x volts; refused (9), 0.
+pub fn energy(state: State) -> Used
+    ensures { λ r. ⌜ r ≡ energyOf state ⌝ }
+{
+    let survey = soundness::survey(state);
+    if !survey.sound {
+        return Used {
+            number: 9,
+            energy: 0,
+        };
+    }
+    Used {
+        number: 0,
+        energy: counts::energy_of(state.ladder, state.tally),
     }
 }

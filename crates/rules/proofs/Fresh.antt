@@ -6,12 +6,12 @@ use Prim.Native.Nat.{ℕ, _*_, _≤_, _<_}
 use native.Mathlib.Nat.{le-trans, not-suc-le-zero}
 use native.Mathlib.Omega.{arith}
 use lib.ListN.{length, getD, List·getD-eq-default}
-use borrow.Author.Tests.{lt-ltb}
 use Rattle.units.specs.Units.{ticks, cycles, speed, volts}
 use Rattle.units.specs.declared.Ticks.{Ticks}
 use Rattle.units.specs.declared.Cycles.{Cycles}
 use Rattle.units.specs.declared.Speed.{Speed}
 use Rattle.units.specs.declared.Volts.{Volts}
+use Rattle.rules.specs.declared.Job.{Job}
 use Rattle.rules.specs.declared.State.{State}
 use Rattle.rules.specs.Words.{upTo, total}
 use Rattle.rules.specs.Limits.{mostTasks, mostPeriod, mostReserve, mostSpeeds, upToMost}
@@ -21,12 +21,30 @@ use Rattle.rules.specs.Numbers.{startNumber, unusedJob, unusedSpeed, run
 use Rattle.rules.specs.Calls.{tasksFrom, ladderFrom, freshJobs, freshTally, freshState, zeroState, startOf}
 use Rattle.rules.proofs.Lists.{getD-upTo, upTo-ext, upTo-getD, every-at}
 use Rattle.rules.proofs.Ranges.{range-from, range-to}
+use Rattle.rules.proofs.Places.{running-right, job-unused, speed-unused}
 use Rattle.rules.proofs.Tables.{Passes, passes, match-some, match-most, match-same}
 use Rattle.rules.proofs.Soundness.{Sound, admitted-fits, sound-facts, facts-sound}
 
 -- past the end of a list there is 0
-past-end : (l : List ℕ) (i : ℕ) → length l ≤ i → getD l i 0 ≡ 0
+pub past-end : (l : List ℕ) (i : ℕ) → length l ≤ i → getD l i 0 ≡ 0
 past-end l i h = List·getD-eq-default l 0 h
+
+-- the task at a place of the lists, with a job that has not run
+pub unrun : List ℕ → List ℕ → ℕ → Job
+unrun ps cs i = record { period = ticks (getD ps i 0); reserve = cycles (getD cs i 0); run = cycles 0; over = false }
+
+-- no job has run or is over, and nothing is counted at any speed
+pub run-fresh : (i : ℕ) → i < mostTasks → getD (freshJobs .run) i (cycles 0) ≡ cycles 0
+unfolding freshJobs
+run-fresh i h = getD-upTo mostTasks (λ k. cycles 0) i (cycles 0) h
+
+pub over-fresh : (i : ℕ) → i < mostTasks → getD (freshJobs .over) i false ≡ false
+unfolding freshJobs
+over-fresh i h = getD-upTo mostTasks (λ k. false) i false h
+
+pub count-fresh : (i : ℕ) → i < mostSpeeds → countAt freshTally i ≡ 0
+unfolding countAt freshTally
+count-fresh i h = ap (λ (x : Cycles). x .0) (getD-upTo mostSpeeds (λ k. cycles 0) i (cycles 0) h)
 
 -- what stands at a place of the arrays is what stands there in the lists
 module _ (g : ℕ) (ps cs : List ℕ) where
@@ -39,11 +57,11 @@ module _ (g : ℕ) (ps cs : List ℕ) where
   reserve-laid i h = ap (λ (x : Cycles). x .0) (getD-upTo mostTasks (λ k. cycles (getD cs k 0)) i (cycles 0) h)
 
   -- and the job there has not run
-  pub job-laid : (i : ℕ) → i < mostTasks → jobAt (tasksFrom g ps cs) freshJobs i ≡ record { period = ticks (getD ps i 0); reserve = cycles (getD cs i 0); run = cycles 0; over = false }
-  unfolding jobAt tasksFrom freshJobs
+  pub job-laid : (i : ℕ) → i < mostTasks → jobAt (tasksFrom g ps cs) freshJobs i ≡ unrun ps cs i
+  unfolding jobAt tasksFrom unrun
   job-laid i h =
       rw
-      (getD-upTo mostTasks (λ k. ticks (getD ps k 0)) i (ticks 0) h, getD-upTo mostTasks (λ k. cycles (getD cs k 0)) i (cycles 0) h, getD-upTo mostTasks (λ k. cycles 0) i (cycles 0) h, getD-upTo mostTasks (λ k. false) i false h)
+      (getD-upTo mostTasks (λ k. ticks (getD ps k 0)) i (ticks 0) h, getD-upTo mostTasks (λ k. cycles (getD cs k 0)) i (cycles 0) h, run-fresh i h, over-fresh i h)
 
   pub periods-laid : length ps ≤ mostTasks → periodsOf (tasksFrom g ps cs) ≡ ps
   unfolding periodsOf tasksFrom
@@ -78,20 +96,6 @@ module _ (ss vs : List ℕ) where
       upTo-ext (length ss) (voltsAt (ladderFrom ss vs)) (λ i. getD vs i 0) (λ i h. volts-laid i (le-trans h m))
       ∙ upTo-getD vs (length ss) 0 e
 
--- nothing is counted at any speed
-pub count-fresh : (i : ℕ) → i < mostSpeeds → countAt freshTally i ≡ 0
-unfolding countAt freshTally
-count-fresh i h = ap (λ (x : Cycles). x .0) (getD-upTo mostSpeeds (λ k. cycles 0) i (cycles 0) h)
-
--- a job that has not run is right under a reserve of at least 1, and unused without a period and a reserve
-fresh-right : (p c : ℕ) → 1 ≤ c → runRight (record { period = ticks p; reserve = cycles c; run = cycles 0; over = false }) ≡ true
-unfolding runRight
-fresh-right p c h = lt-ltb 0 c h
-
-fresh-unused : (p c : ℕ) → p ≡ 0 → c ≡ 0 → unusedJob (record { period = ticks p; reserve = cycles c; run = cycles 0; over = false }) ≡ true
-unfolding unusedJob
-fresh-unused p c e o = rw (e, o)
-
 -- the fresh state of lists that pass 1 to 8
 module _ (ps cs ss vs : List ℕ) (p : Passes ps cs ss vs) where
   first : State
@@ -116,20 +120,23 @@ module _ (ps cs ss vs : List ℕ) (p : Passes ps cs ss vs) where
   reserve-in i h = every-at (upToMost mostReserve) cs 0 i (p .forms .reserves-allowed) (rw paired h)
 
   right-at : (i : ℕ) → i < length ps → runRight (jobAt (tasksFrom (greatOf ps) ps cs) freshJobs i) ≡ true
+  unfolding unrun
   right-at i h =
       rw (job-laid (greatOf ps) ps cs i (le-trans h tasks-few))
-      (fresh-right (getD ps i 0) (getD cs i 0) (range-from mostReserve (getD cs i 0) (reserve-in i h)))
+      (running-right (unrun ps cs i) refl (range-from mostReserve (getD cs i 0) (reserve-in i h)))
 
   unused-at : (i : ℕ) → length ps ≤ i → i < mostTasks → unusedJob (jobAt (tasksFrom (greatOf ps) ps cs) freshJobs i) ≡ true
+  unfolding unrun
   unused-at i a h =
       rw (job-laid (greatOf ps) ps cs i h)
-      (fresh-unused (getD ps i 0) (getD cs i 0) (past-end ps i a) (past-end cs i (rw paired a)))
+      (job-unused (unrun ps cs i) (past-end ps i a) (past-end cs i (rw paired a)) refl refl)
 
-  unused-rung : (i : ℕ) → length ss ≤ i → i < mostSpeeds → unusedSpeed first i ≡ true
-  unfolding unusedSpeed first freshState
-  unused-rung i a h =
-      rw
-      (speed-laid ss vs i h, volts-laid ss vs i h, count-fresh i h, past-end ss i a, past-end vs i (rw matched a))
+  rung-at : (i : ℕ) → length ss ≤ i → i < mostSpeeds → unusedSpeed first i ≡ true
+  unfolding first freshState
+  rung-at i a h =
+      speed-unused first i (speed-laid ss vs i h ∙ past-end ss i a)
+      (volts-laid ss vs i h ∙ past-end vs i (rw matched a))
+      (count-fresh i h)
 
   same-periods : periodsOf (tasksFrom (greatOf ps) ps cs) ≡ ps
   same-periods = periods-laid (greatOf ps) ps cs tasks-few
@@ -162,7 +169,7 @@ module _ (ps cs ss vs : List ℕ) (p : Passes ps cs ss vs) where
         admits = load-fits;
         run-right = right-at;
         unused-job = unused-at;
-        unused-speed = unused-rung;
+        unused-speed = rung-at;
         done-most = omega arith;
         cycles-most = omega arith;
         late-most = omega arith;

@@ -14,18 +14,23 @@ use Rattle.units.specs.declared.Cycles.{Cycles}
 use Rattle.rules.specs.declared.Job.{Job}
 use Rattle.rules.specs.declared.Settling.{Settling}
 use Rattle.rules.specs.declared.State.{State}
+use Rattle.rules.specs.declared.Ticked.{Ticked}
 use Rattle.rules.specs.Words.{total}
 use Rattle.rules.specs.Limits.{mostTasks, mostSpeeds, mostTicks}
 use Rattle.rules.specs.State.{Shaped, periodAt, reserveAt, speedAt, voltsAt, countAt, jobAt, speedsOf, topOf}
-use Rattle.rules.specs.Choice.{readyAt, deadlineAt, orderOf}
-use Rattle.rules.specs.Settlement.{atTickStart, settled, allAllowed}
+use Rattle.rules.specs.Choice.{readyAt, deadlineAt, orderOf, speedPlace, speedOf}
+use Rattle.rules.specs.Settlement.{atTickStart, settled, allAllowed, overEntriesZero, keepsRule4}
 use Rattle.rules.specs.Counting.{counted, nextOf}
-use Rattle.rules.specs.Numbers.{runRight, unusedJob, unusedSpeed}
+use Rattle.rules.specs.Numbers.{runRight, unusedSpeed, sound, tickNumber}
+use Rattle.rules.specs.Calls.{tickOf}
+use Rattle.rules.proofs.Lists.{both-right}
 use Rattle.rules.proofs.Orders.{order-below, order-apart, order-short, order-ready}
-use Rattle.rules.proofs.Places.{withRun, total-set}
+use Rattle.rules.proofs.Stores.{withRun, total-set}
 use Rattle.rules.proofs.Settles.{Settles, settles-all, settles-begun, grantsSum}
 use Rattle.rules.proofs.Releases.{afterRelease, releases-runs, releases-marks, releases-past, releases-at, releases-late}
-use Rattle.rules.proofs.Soundness.{Sound}
+use Rattle.rules.proofs.Soundness.{Sound, facts-sound}
+use Rattle.rules.proofs.Loads.{place-below, speed-of-most}
+use Rattle.rules.proofs.CallRows.{Accepted, accepted, tick-accepted}
 
 -- a released job's run count is right, since its reserve is not 0
 released-right : (t p : ℕ) (j : Job) → 1 ≤ j .reserve .0 → runRight j ≡ true → runRight (afterRelease t p j) ≡ true
@@ -45,9 +50,6 @@ settles s f shape speed report a =
     (settles-begun (s .tasks) (s .jobs) n speed (orderOf s) (shape .runs) (shape .marks) (f .tasks-most) (f .run-right) (order-ready (deadlineAt s) (readyAt s) n) (order-below (deadlineAt s) (readyAt s) n) (order-apart (deadlineAt s) (readyAt s) n) (order-short (deadlineAt s) (readyAt s) n))
 
 module _ (s : State) (f : Sound s) (shape : Shaped s) (place speed : ℕ) (report : List ℕ) (room : s .done .0 < mostTicks) (listed : place < s .ladder .count) (fast : speed ≤ topOf (speedsOf (s .ladder))) (lawful : allAllowed (s .tasks) report (orderOf s) (atTickStart (s .jobs) speed) ≡ true) where
-  outcome : Settling
-  outcome = settled s speed report
-
   done-so : Settles (s .tasks) (s .jobs) (s .tasks .count) speed [] (settled s speed report)
   done-so = settles s f shape speed report lawful
 
@@ -135,3 +137,25 @@ module _ (s : State) (f : Sound s) (shape : Shaped s) (place speed : ℕ) (repor
         volts = shape .volts;
         counts = length-set (s .tally .counts) place _ ∙ shape .counts;
       }
+
+-- an accepted tick, whatever its report, takes a sound state to a sound state
+module _ (s : State) (report : List ℕ) (places : ℕ) (shape : Shaped s) (e : tickNumber s report places ≡ 0) where
+  taken : Accepted s report places
+  taken = accepted s report places e
+
+  pub entries-allowed : allAllowed (s .tasks) report (orderOf s) (atTickStart (s .jobs) (speedOf s)) ≡ true
+  unfolding keepsRule4
+  entries-allowed = both-right (overEntriesZero (s .tasks) (s .jobs) report) (allAllowed (s .tasks) report (orderOf s) (atTickStart (s .jobs) (speedOf s))) (taken .lawful)
+
+  after-is : nextOf s (speedPlace s) (settled s (speedOf s) report) ≡ tickOf s report places .state
+  after-is = ap (λ (r : Ticked). r .state) (tick-accepted s report places e)
+
+  pub tick-sound : sound (tickOf s report places .state) ≡ true
+  tick-sound =
+      rw (← after-is)
+      (facts-sound _ (next-sound s (taken .is-sound) shape (speedPlace s) (speedOf s) report (taken .room) (place-below s (taken .is-sound)) (speed-of-most s (taken .is-sound)) entries-allowed))
+
+  pub tick-shaped : Shaped (tickOf s report places .state)
+  tick-shaped =
+      rw (← after-is)
+      (next-shaped s (taken .is-sound) shape (speedPlace s) (speedOf s) report (taken .room) (place-below s (taken .is-sound)) (speed-of-most s (taken .is-sound)) entries-allowed)

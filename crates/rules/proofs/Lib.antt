@@ -1,7 +1,12 @@
+pub mod CallRows
+pub mod Climbs
+pub mod Deadlines
 pub mod Energies
 pub mod Fresh
 pub mod Keeps
 pub mod Lists
+pub mod Loads
+pub mod Lowest
 pub mod Orders
 pub mod Places
 pub mod Ranges
@@ -9,4 +14,5 @@ pub mod Releases
 pub mod Settles
 pub mod Shares
 pub mod Soundness
+pub mod Stores
 pub mod Tables

@@ -12,7 +12,7 @@ use Rattle.rules.specs.declared.Job.{Job}
 use Rattle.rules.specs.declared.Releasing.{Releasing}
 use Rattle.rules.specs.State.{periodAt, jobAt, putAt}
 use Rattle.rules.specs.Counting.{releaseAt, releases}
-use Rattle.rules.proofs.Places.{withRun, put-same, put-other, put-runs, put-marks}
+use Rattle.rules.proofs.Stores.{withRun, put-same, put-other, put-runs, put-marks}
 
 -- the job of a task after the releases at t
 unfoldable pub afterRelease : ℕ → ℕ → Job → Job

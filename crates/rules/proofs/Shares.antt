@@ -11,7 +11,7 @@ use Rattle.rules.specs.Settlement.{byBullet, remaining, usesUp, allowed,
 use Rattle.rules.specs.Numbers.{runRight}
 use Rattle.rules.proofs.Lists.{both-left, both-right}
 use Rattle.rules.proofs.Ranges.{in-range}
-use Rattle.rules.proofs.Places.{withRun}
+use Rattle.rules.proofs.Stores.{withRun}
 
 -- the bullet that applies
 module _ {A : Type 0} (left u : ℕ) (x y z : A) where

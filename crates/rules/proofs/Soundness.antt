@@ -86,39 +86,39 @@ module _ (s : State) (e : sound s ≡ true) where
   unfolding sound clauses
   clause i h = every-at (λ (c : Bool). c) clauses true i e h
 
-  tables-pass : tablesPass s ≡ true
+  pub tables-pass : tablesPass s ≡ true
   unfolding clauses
   tables-pass = clause 0 (omega arith)
 
-  great-right : greatRight s ≡ true
+  pub great-right : greatRight s ≡ true
   unfolding clauses
   great-right = clause 1 (omega arith)
 
-  unused-tasks : unusedTasks s ≡ true
+  pub unused-tasks : unusedTasks s ≡ true
   unfolding clauses
   unused-tasks = clause 2 (omega arith)
 
-  unused-speeds : unusedSpeeds s ≡ true
+  pub unused-speeds : unusedSpeeds s ≡ true
   unfolding clauses
   unused-speeds = clause 3 (omega arith)
 
-  ticks-bounded : ticksBounded s ≡ true
+  pub ticks-bounded : ticksBounded s ≡ true
   unfolding clauses
   ticks-bounded = clause 4 (omega arith)
 
-  runs-right : runsRight s ≡ true
+  pub runs-right : runsRight s ≡ true
   unfolding clauses
   runs-right = clause 5 (omega arith)
 
-  cycles-bounded : cyclesBounded s ≡ true
+  pub cycles-bounded : cyclesBounded s ≡ true
   unfolding clauses
   cycles-bounded = clause 6 (omega arith)
 
-  late-bounded : lateBounded s ≡ true
+  pub late-bounded : lateBounded s ≡ true
   unfolding clauses
   late-bounded = clause 7 (omega arith)
 
-  cut-bounded : cutBounded s ≡ true
+  pub cut-bounded : cutBounded s ≡ true
   unfolding clauses
   cut-bounded = clause 8 (omega arith)
 

@@ -5,7 +5,7 @@ use Rattle.rules.specs.declared.State.{State}
 use Rattle.rules.specs.declared.Started.{Started}
 use Rattle.rules.specs.Words.{upTo}
 use Rattle.rules.specs.Calls.{tasksFrom, ladderFrom, zeroState}
-use Rattle.governor.specs.Start.{refusal}
+use Rattle.governor.specs.Refusals.{refusal}
 use Rattle.governor.proofs.tables.refused.Statement.{statement}
 use Rattle.governor.proofs.tables.refused.Tie as tie
 

@@ -1,0 +1,172 @@
+-- What soundness says of loads and speeds: no use passes its reserve, so the load is at most the sum that admission tested, and the top speed carries it.
+use mathlib.Core.Path.{_≡_}
+use mathlib.Core.Bool.{Bool, true, false, cond}
+use Prim.Native.Nat.{ℕ, zero, suc, zero-le, suc-le-suc, _-_, _*_, _/_, _≤_, _<_}
+use native.Mathlib.Nat.{add-comm, add-le-add, suc-mul, mul-le-mul, mul-le-mul-right, div-le-self, le-trans, le-refl, zero-lt-suc}
+use native.Mathlib.Omega.{arith}
+use lib.Dec.{ltb}
+use lib.ListN.{length, getD}
+use borrow.Author.Tests.{le-leb}
+use Rattle.rules.specs.declared.Job.{Job}
+use Rattle.rules.specs.declared.Ladder.{Ladder}
+use Rattle.rules.specs.declared.State.{State}
+use Rattle.rules.specs.Words.{upTo, total}
+use Rattle.rules.specs.Limits.{mostSpeed, mostVolts, upToMost}
+use Rattle.rules.specs.State.{jobAt, jobsOf, periodAt, reserveAt, speedAt, voltsAt, periodsOf, reservesOf, speedsOf, voltsOf, topOf}
+use Rattle.rules.specs.Load.{useOf, load, carries}
+use Rattle.rules.specs.Choice.{loadOf, fitsOf, speedPlace, speedOf, noneCarries}
+use Rattle.rules.specs.Admission.{fullLoad}
+use Rattle.rules.specs.Numbers.{runRight}
+use Rattle.rules.proofs.Lists.{length-upTo, getD-upTo}
+use Rattle.rules.proofs.Ranges.{range-from, range-to}
+use Rattle.rules.proofs.Climbs.{rise-range, rise-order, rise-top, stay-range, stay-order}
+use Rattle.rules.proofs.Lowest.{lowest-fits, fit-below, below-some}
+use Rattle.rules.proofs.Soundness.{Sound, length-speeds, length-volts}
+
+-- the most that one term of the load comes to: a reserve of 10 ^ 9 in each of 10 ^ 6 jobs
+abbrev pub mostTerm : ℕ
+mostTerm = 1_000_000_000_000_000
+
+-- a job whose run count is right uses at most its reserve
+pub use-cases : (over : Bool) (run reserve : ℕ) → cond over (upToMost reserve run) (ltb run reserve) ≡ true → cond over run reserve ≤ reserve
+use-cases true run reserve e = range-to reserve run e
+use-cases false run reserve e = le-refl reserve
+
+pub use-most : (j : Job) → runRight j ≡ true → useOf j ≤ j .reserve .0
+unfolding useOf runRight
+use-most j e = use-cases (j .over) (j .run .0) (j .reserve .0) e
+
+-- so the load of n jobs is at most the sum that admission tests
+pub load-full : (great n : ℕ) (job : ℕ → Job) → ((i : ℕ) → i < n → runRight (job i) ≡ true) → load great (upTo n job) ≤ fullLoad great (upTo n (λ i. job i .period .0)) (upTo n (λ i. job i .reserve .0))
+unfolding load total fullLoad upTo
+load-full great zero job e = le-refl 0
+load-full great (suc n) job e =
+    add-le-add (mul-le-mul-right (great / job 0 .period .0) (use-most (job 0) (e 0 (zero-lt-suc n))))
+    (load-full great n (λ i. job (suc i)) (λ i h. e (suc i) (suc-le-suc h)))
+
+-- a sum of n terms, each at most the most
+pub total-most : {A : Type 0} (f : A → ℕ) (most n : ℕ) (g : ℕ → A) → ((i : ℕ) → i < n → f (g i) ≤ most) → total f (upTo n g) ≤ n * most
+unfolding total upTo
+total-most f most zero g e = zero-le
+total-most f most (suc n) g e =
+    rw (suc-mul n most, add-comm (n * most) most)
+    (add-le-add (e 0 (zero-lt-suc n)) (total-most f most n (λ i. g (suc i)) (λ i h. e (suc i) (suc-le-suc h))))
+
+module _ (s : State) (f : Sound s) where
+  pub load-most-full : loadOf s ≤ fullLoad (s .tasks .great .0) (periodsOf (s .tasks)) (reservesOf (s .tasks))
+  unfolding loadOf jobsOf periodsOf reservesOf jobAt periodAt reserveAt
+  load-most-full =
+      load-full (s .tasks .great .0) (s .tasks .count) (jobAt (s .tasks) (s .jobs)) (f .run-right)
+
+  -- each term is at most the most, and so are 16 together
+  pub term-most : (i : ℕ) → i < s .tasks .count → useOf (jobAt (s .tasks) (s .jobs) i) * (s .tasks .great .0 / periodAt (s .tasks) i) ≤ mostTerm
+  unfolding jobAt reserveAt
+  term-most i h =
+      mul-le-mul (le-trans (use-most (jobAt (s .tasks) (s .jobs) i) (f .run-right i h)) (f .reserve-most i h))
+      (le-trans (div-le-self (s .tasks .great .0) (periodAt (s .tasks) i)) (f .great-most))
+
+  pub load-most : loadOf s ≤ 16 * 1_000_000_000_000_000
+  unfolding loadOf load jobsOf jobAt periodAt
+  load-most =
+      le-trans
+      (total-most (λ (j : Job). useOf j * (s .tasks .great .0 / j .period .0)) mostTerm (s .tasks .count) (jobAt (s .tasks) (s .jobs)) term-most)
+      (mul-le-mul-right mostTerm (f .tasks-most))
+
+  -- the top speed carries the load
+  pub top-carries : loadOf s ≤ topOf (speedsOf (s .ladder)) * s .tasks .great .0
+  top-carries = le-trans load-most-full (f .admits)
+
+  pub top-fits : fitsOf s (getD (speedsOf (s .ladder)) (length (speedsOf (s .ladder)) - 1) 0) ≡ true
+  unfolding fitsOf carries topOf
+  top-fits = le-leb (loadOf s) (topOf (speedsOf (s .ladder)) * s .tasks .great .0) top-carries
+
+  -- so the place of the lowest speed that does is one of the list, and the speed there does
+  pub place-in : speedPlace s < length (speedsOf (s .ladder))
+  unfolding speedPlace
+  place-in =
+      fit-below (fitsOf s) (speedsOf (s .ladder)) (length (speedsOf (s .ladder)) - 1)
+      (rw (length-speeds s) (omega (arith, f .speeds-some)))
+      top-fits
+
+  pub place-below : speedPlace s < s .ladder .count
+  place-below = rw (length-speeds s) at place-in
+
+  pub some-carries : noneCarries s ≡ false
+  unfolding noneCarries speedPlace
+  some-carries = below-some (fitsOf s) (speedsOf (s .ladder)) place-in
+
+  pub speed-carries : fitsOf s (speedOf s) ≡ true
+  unfolding speedOf speedPlace
+  speed-carries = lowest-fits (fitsOf s) (speedsOf (s .ladder)) place-in
+
+-- what stands at a place of the lists
+pub speeds-at : (l : Ladder) (i : ℕ) → i < l .count → getD (speedsOf l) i 0 ≡ speedAt l i
+unfolding speedsOf
+speeds-at l i h = getD-upTo (l .count) (speedAt l) i 0 h
+
+pub volts-at : (l : Ladder) (i : ℕ) → i < l .count → getD (voltsOf l) i 0 ≡ voltsAt l i
+unfolding voltsOf
+volts-at l i h = getD-upTo (l .count) (voltsAt l) i 0 h
+
+pub top-at : (l : Ladder) → 1 ≤ l .count → topOf (speedsOf l) ≡ speedAt l (l .count - 1)
+unfolding topOf speedsOf
+top-at l h = rw (length-upTo (l .count) (speedAt l)) (speeds-at l (l .count - 1) (omega arith))
+
+-- each listed speed and volt value is in its range, and no speed is above the top
+module _ (s : State) (f : Sound s) (i : ℕ) (h : i < s .ladder .count) where
+  pub in-speeds : i < length (speedsOf (s .ladder))
+  in-speeds = rw (length-speeds s) h
+
+  pub in-volts : i < length (voltsOf (s .ladder))
+  in-volts = rw (length-volts s) h
+
+  pub speed-range : upToMost mostSpeed (speedAt (s .ladder) i) ≡ true
+  speed-range = rw (speeds-at (s .ladder) i h) at (rise-range 0 (speedsOf (s .ladder)) (f .speeds-rise) i in-speeds)
+
+  pub volts-range : upToMost mostVolts (voltsAt (s .ladder) i) ≡ true
+  volts-range = rw (volts-at (s .ladder) i h) at (stay-range 0 (voltsOf (s .ladder)) (f .volts-never-fall) i in-volts)
+
+  pub speed-some : 1 ≤ speedAt (s .ladder) i
+  speed-some = range-from mostSpeed (speedAt (s .ladder) i) speed-range
+
+  pub speed-limit : speedAt (s .ladder) i ≤ mostSpeed
+  speed-limit = range-to mostSpeed (speedAt (s .ladder) i) speed-range
+
+  pub speed-most : speedAt (s .ladder) i ≤ topOf (speedsOf (s .ladder))
+  speed-most = rw (speeds-at (s .ladder) i h) at (rise-top 0 (speedsOf (s .ladder)) (f .speeds-rise) i in-speeds)
+
+  pub volts-some : 1 ≤ voltsAt (s .ladder) i
+  volts-some = range-from mostVolts (voltsAt (s .ladder) i) volts-range
+
+  pub volts-limit : voltsAt (s .ladder) i ≤ mostVolts
+  volts-limit = range-to mostVolts (voltsAt (s .ladder) i) volts-range
+
+-- a later speed is above, a later volt value not below
+module _ (s : State) (f : Sound s) (i k : ℕ) (a : i < k) (h : k < s .ladder .count) where
+  pub speed-order : speedAt (s .ladder) i < speedAt (s .ladder) k
+  speed-order =
+      rw (speeds-at (s .ladder) i (omega arith), speeds-at (s .ladder) k h)
+      at (rise-order 0 (speedsOf (s .ladder)) (f .speeds-rise) i k a (in-speeds s f k h))
+
+  pub volts-order : voltsAt (s .ladder) i ≤ voltsAt (s .ladder) k
+  volts-order =
+      rw (volts-at (s .ladder) i (omega arith), volts-at (s .ladder) k h)
+      at (stay-order 0 (voltsOf (s .ladder)) (f .volts-never-fall) i k a (in-volts s f k h))
+
+-- the top speed is in its range, and so is the speed of a tick, which stands at its place
+module _ (s : State) (f : Sound s) where
+  pub last-in : s .ladder .count - 1 < s .ladder .count
+  last-in = omega (arith, f .speeds-some)
+
+  pub top-some : 1 ≤ topOf (speedsOf (s .ladder))
+  top-some = rw (top-at (s .ladder) (f .speeds-some)) (speed-some s f (s .ladder .count - 1) last-in)
+
+  pub top-limit : topOf (speedsOf (s .ladder)) ≤ mostSpeed
+  top-limit = rw (top-at (s .ladder) (f .speeds-some)) (speed-limit s f (s .ladder .count - 1) last-in)
+
+  pub speed-of-at : speedOf s ≡ speedAt (s .ladder) (speedPlace s)
+  unfolding speedOf
+  speed-of-at = speeds-at (s .ladder) (speedPlace s) (place-below s f)
+
+  pub speed-of-most : speedOf s ≤ topOf (speedsOf (s .ladder))
+  speed-of-most = rw speed-of-at (speed-most s f (speedPlace s) (place-below s f))

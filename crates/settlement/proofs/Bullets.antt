@@ -1,0 +1,90 @@
+-- Rule 4's bullets for one ready job: which of them applies, what each case of it comes to, and that what is given for an allowed entry is there to give.
+use mathlib.Core.Path.{_≡_, refl}
+use mathlib.Core.Bool.{Bool, true, false, cond, _&&_}
+use Prim.Native.Nat.{ℕ, _+_, _-_, _≤_, _<_, min}
+use native.Mathlib.Omega.{arith}
+use lib.Dec.{eqb, ltb, leb}
+use borrow.Author.Tests.{eq-eqb, ne-eqb, lt-ltb, le-ltb, le-leb, lt-leb, leb-true}
+use Rattle.units.specs.declared.Cycles.{Cycles}
+use Rattle.units.specs.Units.{cycles}
+use Rattle.rules.specs.declared.Job.{Job}
+use Rattle.rules.specs.Settlement.{byBullet, remaining, usesUp, allowed, granted, isCut, isOver}
+use Rattle.rules.proofs.Lists.{both-left, both-right}
+use Rattle.settlement.specs.Parts.{shareOf, notReached, runsOn, finishesAt}
+
+-- which bullet applies
+module _ (left u : ℕ) (j : Job) where
+  pub nothing-left : left ≡ 0 → notReached u ≡ shareOf left u j
+  unfolding notReached shareOf allowed granted isOver isCut byBullet
+  nothing-left e = rw (eq-eqb left 0 e)
+
+  pub entry-0 : (left ≡ 0 → ⊥) → u ≡ 0 → runsOn left j ≡ shareOf left u j
+  unfolding runsOn shareOf allowed granted isOver isCut byBullet
+  entry-0 n e = rw (ne-eqb left 0 n, eq-eqb u 0 e)
+
+  pub entry-u : (left ≡ 0 → ⊥) → (u ≡ 0 → ⊥) → finishesAt left u j ≡ shareOf left u j
+  unfolding finishesAt shareOf allowed granted isOver isCut byBullet
+  entry-u n e = rw (ne-eqb left 0 n, ne-eqb u 0 e)
+
+-- entry 0: a run past the reserve gets nothing, less than what remains is all given, and what remains uses the reserve up
+module _ (left : Cycles) (j : Job) where
+  pub past-reserve : j .reserve .0 < j .run .0 → record { allowed = true; given = cycles 0; over = false; cut = false } ≡ runsOn (left .0) j
+  unfolding runsOn remaining usesUp
+  past-reserve h =
+      let least : min (left .0) (j .reserve .0 - j .run .0) ≡ 0 = omega arith in
+      rw (least, ne-eqb (j .run .0 + 0) (j .reserve .0) (λ e. omega (arith, e)))
+
+  pub all-given : j .run .0 ≤ j .reserve .0 → left .0 < j .reserve .0 - j .run .0 → record { allowed = true; given = left; over = false; cut = false } ≡ runsOn (left .0) j
+  unfolding runsOn remaining usesUp
+  all-given r h =
+      let least : min (left .0) (j .reserve .0 - j .run .0) ≡ left .0 = omega arith in
+      rw (least, ne-eqb (j .run .0 + left .0) (j .reserve .0) (λ e. omega (arith, e)))
+
+  pub used-up : j .run .0 ≤ j .reserve .0 → j .reserve .0 - j .run .0 ≤ left .0 → record { allowed = true; given = cycles (j .reserve .0 - j .run .0); over = true; cut = true } ≡ runsOn (left .0) j
+  unfolding runsOn remaining usesUp
+  used-up r h =
+      let least : min (left .0) (j .reserve .0 - j .run .0) ≡ j .reserve .0 - j .run .0 = omega arith in
+      rw (least, eq-eqb (j .run .0 + (j .reserve .0 - j .run .0)) (j .reserve .0) (omega arith))
+
+-- a test beside one that is decided
+and-true : (b : Bool) → (b && true) ≡ b
+and-true true = refl
+and-true false = refl
+
+and-false : (b : Bool) → (b && false) ≡ false
+and-false true = refl
+and-false false = refl
+
+-- entry u: at most the run count, more than is left, or as its reserve allows
+module _ (left u : ℕ) (j : Job) where
+  pub too-low : u ≤ j .run .0 → record { allowed = false; given = cycles 0; over = true; cut = false } ≡ finishesAt left u j
+  unfolding finishesAt
+  too-low h =
+      let none : u - j .run .0 ≡ 0 = omega arith in
+      rw (le-ltb (j .run .0) u h, none)
+
+  pub not-left : j .run .0 < u → left < u - j .run .0 → record { allowed = false; given = cycles (u - j .run .0); over = true; cut = false } ≡ finishesAt left u j
+  unfolding finishesAt
+  not-left r h =
+      rw (lt-ltb (j .run .0) u r, lt-leb (u - j .run .0) left h, and-false (leb u (j .reserve .0)))
+
+  pub within-left : j .run .0 < u → u - j .run .0 ≤ left → record { allowed = leb u (j .reserve .0); given = cycles (u - j .run .0); over = true; cut = false } ≡ finishesAt left u j
+  unfolding finishesAt
+  within-left r h =
+      rw (lt-ltb (j .run .0) u r, le-leb (u - j .run .0) left h, and-true (leb u (j .reserve .0)))
+
+-- what is given for an allowed entry is at most what is left, and at most the remaining reserve
+pub granted-within : (left u : ℕ) (j : Job) → allowed left u j ≡ true → (granted left u j ≤ left) × (granted left u j ≤ j .reserve .0 - j .run .0)
+unfolding allowed granted byBullet remaining
+granted-within left u j = go (eqb left 0) (eqb u 0)
+  where
+    go : (a b : Bool) → cond a (eqb u 0) (cond b true (ltb (j .run .0) u && leb u (j .reserve .0) && leb (u - j .run .0) left)) ≡ true → let given = cond a 0 (cond b (min left (j .reserve .0 - j .run .0)) (u - j .run .0)) in (given ≤ left) × (given ≤ j .reserve .0 - j .run .0)
+    go true b e = (omega arith, omega arith)
+    go false true e = (omega arith, omega arith)
+    go false false e =
+        let above = ltb (j .run .0) u in
+        let within = leb u (j .reserve .0) in
+        let reached = leb (u - j .run .0) left in
+        let r = leb-true (u - j .run .0) left (both-right (above && within) reached e) in
+        let w = leb-true u (j .reserve .0) (both-right above within (both-left (above && within) reached e)) in
+        (r, omega arith)

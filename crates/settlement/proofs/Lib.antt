@@ -1,0 +1,5 @@
+pub mod Bullets
+pub mod Marks
+pub mod Orders
+pub mod Steps
+pub mod Wholes

@@ -1,0 +1,96 @@
+// Rule 4 for one job: whether its entry is allowed, what it gets, and whether it is over or cut by that.
+ghost use mathlib.Core.Path.{_≡_};
+ghost use Rattle.settlement.specs.Parts.{shareOf, notReached, runsOn, finishesAt};
+use rules::Job;
+use units::Cycles;
+
+// What rule 4 says of one ready job.
+pub struct Share {
+    pub allowed: bool,
+    pub given: Cycles,
+    pub over: bool,
+    pub cut: bool,
+}
+
+// The bullet that applies to a ready job: nothing left, entry 0, or entry u.
+pub(crate) fn share_out(left: Cycles, entry: u64, job: Job) -> Share
+    ensures { λ r. ⌜ r ≡ shareOf (left .0) entry job ⌝ }
+{
+    if left.0 == 0 {
+        return not_reached(entry);
+    }
+    if entry == 0 {
+        return runs_on(left, job);
+    }
+    finishes(left, entry, job)
+}
+
+// Nothing left: the job gets 0 and its entry must be 0.
+fn not_reached(entry: u64) -> Share
+    ensures { λ r. ⌜ r ≡ notReached entry ⌝ }
+{
+    Share {
+        allowed: entry == 0,
+        given: Cycles(0),
+        over: false,
+        cut: false,
+    }
+}
+
+// Entry 0: the smaller of what is left and the remaining reserve; if that uses up the reserve, over and cut.
+fn runs_on(left: Cycles, job: Job) -> Share
+    ensures { λ r. ⌜ r ≡ runsOn (left .0) job ⌝ }
+{
+    let reserve = job.reserve;
+    let run = job.run;
+    if reserve.0 < run.0 {
+        return Share {
+            allowed: true,
+            given: Cycles(0),
+            over: false,
+            cut: false,
+        };
+    }
+    let remaining = reserve.0 - run.0;
+    if left.0 < remaining {
+        return Share {
+            allowed: true,
+            given: left,
+            over: false,
+            cut: false,
+        };
+    }
+    Share {
+        allowed: true,
+        given: Cycles(remaining),
+        over: true,
+        cut: true,
+    }
+}
+
+// Entry u: needs run < u <= reserve and u - run <= what is left; the job gets u - run and is over.
+fn finishes(left: Cycles, entry: u64, job: Job) -> Share
+    ensures { λ r. ⌜ r ≡ finishesAt (left .0) entry job ⌝ }
+{
+    let reserve = job.reserve;
+    let run = job.run;
+    if entry <= run.0 {
+        return Share {
+            allowed: false,
+            given: Cycles(0),
+            over: true,
+            cut: false,
+        };
+    }
+    let given = entry - run.0;
+    let mut allowed = entry <= reserve.0;
+    if left.0 < given {
+        allowed = false;
+    }
+    Share {
+        allowed: allowed,
+        given: Cycles(given),
+        over: true,
+        cut: false, // also where u is the whole reserve
+    }
+}
