@@ -1,3 +1,4 @@
 pub mod DivisorLaws
 pub mod Caps
 pub mod Prefixes
+pub mod Quotients

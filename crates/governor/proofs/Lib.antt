@@ -2,3 +2,4 @@ pub mod CountLaws
 pub mod Laid
 pub mod ReleaseLaws
 pub mod Starts
+pub mod TickLaws

@@ -1,0 +1,19 @@
+-- `rises` is the test of number 5 at one place: the range, then the speed before.
+use borrow.Author.Needs.{needs}
+use Rattle.soundness.proofs.Answers.{passed, failed}
+use Rattle.soundness.proofs.rungs.rises.Statement.{statement}
+use Rattle.soundness.proofs.rungs.rises.Tie as tie
+
+in-range-requires : tie.Need-in-range-requires
+in-range-requires c κs = search needs
+
+returns : tie.Need-returns
+returns c = rw (failed (c .before .in-range .ensures) (c .if1 .taken))
+
+returns-2 : tie.Need-returns-2
+returns-2 c =
+    let t = c .before .before in
+    rw (passed (t .before .in-range .ensures) (t .if1 .left))
+
+pub rises-spec : {M : Type 1} → statement M
+rises-spec = tie.close (tie.spec in-range-requires returns returns-2)

@@ -1,0 +1,64 @@
+// Whether a state is sound, and its load where it is. Every clause of document 01's soundness is tested once, for any numbers that the state may hold.
+mod places;
+mod rungs;
+mod sums;
+mod tallies;
+
+ghost use mathlib.Core.Path.{_≡_};
+ghost use Rattle.soundness.specs.Survey.{surveyOf, unsoundSurvey};
+use rules::State;
+use units::Cycles;
+
+// Whether a state is sound, and its load where it is.
+pub struct Surveyed {
+    pub sound: bool,
+    pub load: Cycles,
+}
+
+// Whether a state is sound, clause by clause, and the sum of use x (H / P) where it is.
+pub fn survey(state: State) -> Surveyed
+    ensures { λ r. ⌜ r ≡ surveyOf state ⌝ }
+{
+    let tasks = state.tasks;
+    let jobs = state.jobs;
+    if !places::tasks_right(tasks, jobs) {
+        return unsound();
+    }
+    let ladder = state.ladder;
+    let tally = state.tally;
+    if !rungs::ladder_right(ladder, tally) {
+        return unsound();
+    }
+    let top = rungs::top_of(ladder);
+    let done = state.done;
+    if !tallies::tally_right(done, tally, top) {
+        return unsound();
+    }
+    let great = tasks.great;
+    if great.0 > 1000000 {
+        return unsound();
+    }
+    let made = sums::sums_of(tasks, jobs);
+    if !sums::great_right(made) {
+        return unsound();
+    }
+    let full = made.full;
+    if !units::carries(top, great, full) {
+        return unsound();
+    }
+    let load = made.load;
+    Surveyed {
+        sound: true,
+        load: load,
+    }
+}
+
+// An unsound state: no load is told.
+fn unsound() -> Surveyed
+    ensures { λ r. ⌜ r ≡ unsoundSurvey ⌝ }
+{
+    Surveyed {
+        sound: false,
+        load: Cycles(0),
+    }
+}
