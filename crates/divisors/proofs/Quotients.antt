@@ -4,7 +4,7 @@ use mathlib.Core.List.{List}
 use Prim.Native.Nat.{ℕ, _*_, _/_, _<_, _∣_}
 use native.Mathlib.Nat.{dvd-refl, one-dvd, dvd-trans, dvd-mul-left, mul-dvd-mul-left, mul-dvd-mul-right, dvd-of-mul-dvd-mul-left, dvd-of-mul-dvd-mul-right, mul-div-cancel', div-mul-cancel, mul-one, pos-of-dvd-of-pos, eq-one-of-dvd-one}
 use lib.ListN.{length, getD}
-use Rattle.divisors.specs.Divisors.{gcdOf, lcmAll, IsGcd}
+use Rattle.divisors.specs.Divisors.{gcdOf, lcmAll}
 use Rattle.divisors.proofs.DivisorLaws.{gcd-is, gcd-one, all-is, all-each}
 
 -- 1 and any number have 1 as their greatest common divisor

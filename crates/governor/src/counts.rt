@@ -21,11 +21,14 @@ pub(crate) fn count_tick(tally: Tally, place: usize, speed: Speed, outcome: Sett
     let mut counts = tally.counts;
     let idle = tally.idle;
     let left = outcome.left;
+    let whole = speed.0;
+    let rest = left.0;
+    let granted = whole - rest;
     let before = counts[place];
-    counts[place] = Cycles(before.0 + (speed.0 - left.0));
+    counts[place] = Cycles(before.0 + granted);
     Tally {
         counts: counts,
-        idle: Cycles(idle.0 + left.0),
+        idle: Cycles(idle.0 + rest),
         late: tally.late,
         cut: tally.cut + outcome.cut,
     }

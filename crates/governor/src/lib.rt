@@ -42,7 +42,7 @@ pub fn now(state: State) -> Told
         return refusals::untold(9);
     }
     let done = state.done;
-    if 1000000000 <= done.0 {
+    if done.0 >= 1000000000 {
         return refusals::untold(10);
     }
     let tasks = state.tasks;

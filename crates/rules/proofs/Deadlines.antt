@@ -6,6 +6,8 @@ use native.Mathlib.Decide.{decLt}
 use native.Mathlib.Numerals.{add-one}
 use native.Mathlib.Omega.{arith}
 use lib.Dec.{eqb}
+use Rattle.rules.specs.declared.Job.{Job}
+use Rattle.rules.specs.Load.{deadline}
 use borrow.Author.Tests.{eq-eqb, ne-eqb}
 
 module _ (t p : ℕ) (some : 1 ≤ p) where
@@ -60,3 +62,17 @@ module _ (t p : ℕ) (some : 1 ≤ p) where
 
   pub due-moves : t + p - t % p ≡ t + 1 → t + 1 + p - (t + 1) % p ≡ t + 1 + p
   due-moves now = omega (arith, next-none (omega (arith, part-below)))
+
+-- Rule 1. The same of a job's deadline.
+module _ (t : ℕ) (j : Job) (some : 1 ≤ j .period .0) where
+  pub deadline-after : t < deadline t j
+  unfolding deadline
+  deadline-after = due-after t (j .period .0) some
+
+  pub deadline-most : deadline t j ≤ t + j .period .0
+  unfolding deadline
+  deadline-most = due-most t (j .period .0) some
+
+  pub deadline-next : eqb ((t + 1) % j .period .0) 0 ≡ eqb (deadline t j) (t + 1)
+  unfolding deadline
+  deadline-next = release-due t (j .period .0) some

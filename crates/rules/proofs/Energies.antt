@@ -1,10 +1,9 @@
 -- Rule 6's sum of a sound state fits 64 bits: each count at most 100 x 100 times, all counts together at most t x top speed.
-use mathlib.Core.Path.{_≡_, refl, sym, ap, _∙_}
 use mathlib.Core.List.{List, [], _∷_}
-use Prim.Native.Nat.{ℕ, zero, suc, zero-le, suc-le-suc, _+_, _*_, _≤_, _<_}
-use native.Mathlib.Nat.{mul-le-mul, mul-le-mul-left, mul-zero, mul-add, le-refl}
+use Prim.Native.Nat.{ℕ, zero, suc, zero-le, _+_, _*_, _≤_, _<_}
+use native.Mathlib.Nat.{mul-le-mul, mul-le-mul-left}
 use native.Mathlib.Omega.{arith}
-use lib.ListN.{length, getD}
+use lib.ListN.{getD}
 use Rattle.units.specs.Units.{cycles}
 use Rattle.units.specs.declared.Cycles.{Cycles}
 use Rattle.rules.specs.declared.State.{State}
@@ -12,34 +11,12 @@ use Rattle.rules.specs.Words.{upTo, total}
 use Rattle.rules.specs.Limits.{mostTicks, mostSpeed, mostVolts}
 use Rattle.rules.specs.State.{countAt, voltsAt, topOf, speedsOf}
 use Rattle.rules.specs.Counting.{energySum}
+use Rattle.rules.proofs.Totals.{total-places, total-mono, total-times}
 use Rattle.rules.proofs.Soundness.{Sound}
 
 -- the most that a sound state's energy comes to
 abbrev pub mostEnergy : ℕ
 mostEnergy = 10_000_000_000_000_000_000
-
--- a sum over the places of a list of values is the sum over the values
-total-places : (f g : ℕ → ℕ) (n : ℕ) → total f (upTo n g) ≡ total (λ i. f (g i)) (upTo n (λ i. i))
-unfolding total upTo
-total-places f g zero = refl
-total-places f g (suc n) =
-    ap (λ x. f (g 0) + x)
-    (total-places f (λ i. g (suc i)) n ∙ sym (total-places (λ i. f (g i)) suc n))
-
--- a sum of smaller terms is smaller
-pub total-mono : (f g : ℕ → ℕ) (n : ℕ) → ((i : ℕ) → i < n → f i ≤ g i) → total f (upTo n (λ i. i)) ≤ total g (upTo n (λ i. i))
-unfolding total upTo
-total-mono f g zero h = le-refl 0
-total-mono f g (suc n) h =
-    let first : f 0 ≤ g 0 = h 0 (omega arith) in
-    let rest : total (λ i. f (suc i)) (upTo n (λ i. i)) ≤ total (λ i. g (suc i)) (upTo n (λ i. i)) = total-mono (λ i. f (suc i)) (λ i. g (suc i)) n (λ i l. h (suc i) (suc-le-suc l)) in
-    omega (arith, first, rest, total-places f suc n, total-places g suc n)
-
--- a factor of every term is one of the sum
-total-times : (k : ℕ) (f : ℕ → ℕ) (l : List ℕ) → total (λ i. k * f i) l ≡ k * total f l
-unfolding total
-total-times k f [] = sym (mul-zero k)
-total-times k f (x ∷ l) = ap (λ y. k * f x + y) (total-times k f l) ∙ sym (mul-add k (f x) (total f l))
 
 -- the first places of a list come to at most the whole of it
 first-places : (l : List Cycles) (n : ℕ) → total (λ i. getD l i (cycles 0) .0) (upTo n (λ i. i)) ≤ total (λ (c : Cycles). c .0) l

@@ -25,7 +25,8 @@ use Rattle.rules.specs.Numbers.{runRight, unusedSpeed, sound, tickNumber
 use Rattle.rules.specs.Calls.{tickOf}
 use Rattle.rules.proofs.Lists.{both-right}
 use Rattle.rules.proofs.Orders.{order-below, order-apart, order-short, order-ready}
-use Rattle.rules.proofs.Stores.{withRun, total-set}
+use Rattle.rules.proofs.Stores.{withRun}
+use Rattle.rules.proofs.Totals.{total-set}
 use Rattle.rules.proofs.Settles.{Settles, settles-all, settles-begun, grantsSum}
 use Rattle.rules.proofs.Releases.{afterRelease, releases-runs, releases-marks, releases-past, releases-at, releases-late}
 use Rattle.rules.proofs.Soundness.{Sound, facts-sound}

@@ -13,6 +13,8 @@ pub mod Ranges
 pub mod Releases
 pub mod Settles
 pub mod Shares
+pub mod Sorted
 pub mod Soundness
 pub mod Stores
 pub mod Tables
+pub mod Totals

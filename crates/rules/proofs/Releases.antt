@@ -1,8 +1,8 @@
 -- Rule 5's releases, place by place: a task whose period divides t has a fresh job, any other task the job it had. By induction on the tasks.
-use mathlib.Core.Path.{_≡_, refl, ap, _∙_}
+use mathlib.Core.Path.{_≡_, refl, sym, ap, ap₂, _∙_}
 use mathlib.Core.Bool.{Bool, true, false, cond}
 use Prim.Native.Nat.{ℕ, zero, suc, _+_, _%_, _≤_, _<_}
-use native.Mathlib.Nat.{not-suc-le-zero}
+use native.Mathlib.Nat.{not-suc-le-zero, add-zero}
 use native.Mathlib.Decide.{ℕ-discrete}
 use native.Mathlib.Omega.{arith}
 use lib.Dec.{eqb}
@@ -10,9 +10,11 @@ use lib.ListN.{length}
 use Rattle.rules.specs.declared.Tasks.{Tasks}
 use Rattle.rules.specs.declared.Job.{Job}
 use Rattle.rules.specs.declared.Releasing.{Releasing}
+use Rattle.rules.specs.Words.{upTo, total}
 use Rattle.rules.specs.State.{periodAt, jobAt, putAt}
 use Rattle.rules.specs.Counting.{releaseAt, releases}
 use Rattle.rules.proofs.Stores.{withRun, put-same, put-other, put-runs, put-marks}
+use Rattle.rules.proofs.Totals.{total-last}
 
 -- the job of a task after the releases at t
 unfoldable pub afterRelease : ℕ → ℕ → Job → Job
@@ -67,6 +69,14 @@ module _ (ts : Tasks) (t i : ℕ) (sofar : Releasing) where
       go true false e f = rw (e, f) (omega arith)
       go false o e f = rw e (omega arith)
 
+  pub release-late-is : releaseAt ts t i sofar .late ≡ sofar .late + cond (eqb (t % periodAt ts i) 0) (cond (jobAt ts (sofar .jobs) i .over) 0 1) 0
+  unfolding releaseAt
+  release-late-is = go (eqb (t % periodAt ts i) 0) refl
+    where
+      go : (b : Bool) → eqb (t % periodAt ts i) 0 ≡ b → releaseAt ts t i sofar .late ≡ sofar .late + cond (eqb (t % periodAt ts i) 0) (cond (jobAt ts (sofar .jobs) i .over) 0 1) 0
+      go true e = rw e
+      go false e = rw e (sym (add-zero (sofar .late)))
+
 -- the releases of the first n tasks
 module _ (ts : Tasks) (t : ℕ) (sofar : Releasing) where
   pub releases-runs : (n : ℕ) → length (releases ts t n sofar .jobs .run) ≡ length (sofar .jobs .run)
@@ -109,3 +119,19 @@ module _ (ts : Tasks) (t : ℕ) (sofar : Releasing) where
       let before = releases-late n in
       let one = release-late ts t n (releases ts t n sofar) in
       omega arith
+
+  -- exactly those are late that are released and not over
+  abbrev pub lates : ℕ → ℕ
+  lates i = cond (eqb (t % periodAt ts i) 0) (cond (jobAt ts (sofar .jobs) i .over) 0 1) 0
+
+  no-late : sofar .late ≡ sofar .late + total lates (upTo 0 (λ i. i))
+  unfolding total upTo
+  no-late = sym (add-zero (sofar .late))
+
+  pub releases-late-is : (n : ℕ) → releases ts t n sofar .late ≡ sofar .late + total lates (upTo n (λ i. i))
+  unfolding releases
+  releases-late-is zero = no-late
+  releases-late-is (suc n) =
+      release-late-is ts t n (releases ts t n sofar)
+      ∙ ap₂ (λ x (j : Job). x + cond (eqb (t % periodAt ts n) 0) (cond (j .over) 0 1) 0) (releases-late-is n) (releases-past n n (omega arith))
+      ∙ omega (arith, total-last lates n)

@@ -21,7 +21,8 @@ use Rattle.rules.specs.Settlement.{allowed, granted, isCut, isOver, sett
 use Rattle.rules.specs.Numbers.{runRight}
 use Rattle.rules.proofs.Lists.{both-left, both-right, every-first, every-rest, length-upTo, getD-upTo}
 use Rattle.rules.proofs.Orders.{apart, every-mono}
-use Rattle.rules.proofs.Stores.{withRun, put-same, put-other, total-set}
+use Rattle.rules.proofs.Stores.{withRun, put-same, put-other}
+use Rattle.rules.proofs.Totals.{total-set}
 use Rattle.rules.proofs.Shares.{granted-left, granted-right}
 
 -- the cycles granted so far

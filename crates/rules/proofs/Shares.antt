@@ -1,10 +1,10 @@
 -- Rule 4 for one ready job: its part is within what is left, and it keeps its run count right. By the three bullets.
-use mathlib.Core.Path.{_≡_, refl}
-use mathlib.Core.Bool.{Bool, true, false, cond, _&&_}
+use mathlib.Core.Path.{_≡_, refl, sym, ap, _∙_}
+use mathlib.Core.Bool.{Bool, true, false, false≢true, cond, _&&_}
 use Prim.Native.Nat.{ℕ, _+_, _-_, _≤_, _<_, min}
 use native.Mathlib.Omega.{arith}
 use lib.Dec.{eqb, ltb, leb}
-use borrow.Author.Tests.{eqb-true, eqb-false, ltb-true, leb-true, lt-ltb, le-leb}
+use borrow.Author.Tests.{eqb-true, eqb-false, eq-eqb, ne-eqb, ltb-true, leb-true, lt-ltb, le-leb}
 use Rattle.rules.specs.declared.Job.{Job}
 use Rattle.rules.specs.Limits.{upToMost}
 use Rattle.rules.specs.Settlement.{byBullet, remaining, usesUp, allowed, granted, isCut, isOver}
@@ -77,3 +77,29 @@ module _ (left u : ℕ) (j : Job) where
           let k = above-run e f a in
           rw (entry-u left u false (usesUp left j) true e f, entry-u left u 0 (min left (remaining j)) (u - j .run .0) e f)
           (in-range (j .reserve .0) (j .run .0 + (u - j .run .0)) (omega arith) (omega arith))
+
+  -- a job is cut exactly where entry 0 uses its reserve up while something is left, and it is over then
+  pub cut-only : isCut left u j ≡ true → (0 < left) × (u ≡ 0) × (j .run .0 + granted left u j ≡ j .reserve .0)
+  unfolding isCut granted usesUp
+  cut-only c = go (eqb left 0) (eqb u 0) refl refl
+    where
+      go : (p q : Bool) → eqb left 0 ≡ p → eqb u 0 ≡ q → (0 < left) × (u ≡ 0) × (j .run .0 + granted left u j ≡ j .reserve .0)
+      go true q e f = absurd (false≢true (sym (nothing-left left u false (usesUp left j) false e) ∙ c))
+      go false true e f =
+          let used : usesUp left j ≡ true = sym (entry-0 left u false (usesUp left j) false e f) ∙ c in (
+            omega (arith, eqb-false left 0 e),
+            eqb-true u 0 f,
+            ap (λ g. j .run .0 + g) (entry-0 left u 0 (min left (remaining j)) (u - j .run .0) e f) ∙ eqb-true _ _ used,
+          )
+      go false false e f = absurd (false≢true (sym (entry-u left u false (usesUp left j) false e f) ∙ c))
+
+  pub cut-always : 0 < left → u ≡ 0 → j .run .0 + granted left u j ≡ j .reserve .0 → isCut left u j ≡ true
+  unfolding isCut granted usesUp
+  cut-always l z r =
+      let some = ne-eqb left 0 none in
+      let entry = eq-eqb u 0 z in
+      entry-0 left u false (usesUp left j) false some entry
+      ∙ eq-eqb _ _ (sym (ap (λ g. j .run .0 + g) (entry-0 left u 0 (min left (remaining j)) (u - j .run .0) some entry)) ∙ r)
+    where
+      none : left ≡ 0 → ⊥
+      none e = omega arith

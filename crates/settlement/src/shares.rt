@@ -43,7 +43,11 @@ fn runs_on(left: Cycles, job: Job) -> Share
 {
     let reserve = job.reserve;
     let run = job.run;
-    if reserve.0 < run.0 {
+    let most = reserve.0;
+    let ran = run.0;
+    let rest = left.0;
+    // a job past its reserve, which no sound state has, gets nothing and is not over by that
+    if most < ran {
         return Share {
             allowed: true,
             given: Cycles(0),
@@ -51,8 +55,8 @@ fn runs_on(left: Cycles, job: Job) -> Share
             cut: false,
         };
     }
-    let remaining = reserve.0 - run.0;
-    if left.0 < remaining {
+    let remaining = most - ran;
+    if rest < remaining {
         return Share {
             allowed: true,
             given: left,
@@ -74,6 +78,8 @@ fn finishes(left: Cycles, entry: u64, job: Job) -> Share
 {
     let reserve = job.reserve;
     let run = job.run;
+    let most = reserve.0;
+    let rest = left.0;
     if entry <= run.0 {
         return Share {
             allowed: false,
@@ -83,12 +89,16 @@ fn finishes(left: Cycles, entry: u64, job: Job) -> Share
         };
     }
     let given = entry - run.0;
-    let mut allowed = entry <= reserve.0;
-    if left.0 < given {
-        allowed = false;
+    if rest < given {
+        return Share {
+            allowed: false,
+            given: Cycles(given),
+            over: true,
+            cut: false,
+        };
     }
     Share {
-        allowed: allowed,
+        allowed: entry <= most,
         given: Cycles(given),
         over: true,
         cut: false, // also where u is the whole reserve

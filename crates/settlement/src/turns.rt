@@ -84,10 +84,13 @@ fn give(sofar: Settling, i: usize, job: Job, part: Share) -> Settling
     let mut run = jobs.run;
     let mut over = jobs.over;
     let mut grants = sofar.grants;
-    let ran = job.run;
+    let used = job.run;
     let share = part.given;
-    let left = sofar.left;
-    run[i] = Cycles(ran.0 + share.0);
+    let rest = sofar.left;
+    let ran = used.0;
+    let gets = share.0;
+    let left = rest.0;
+    run[i] = Cycles(ran + gets);
     over[i] = part.over;
     grants[i] = share;
     let mut cut = sofar.cut;
@@ -100,7 +103,7 @@ fn give(sofar: Settling, i: usize, job: Job, part: Share) -> Settling
             over: over,
         },
         grants: grants,
-        left: Cycles(left.0 - share.0),
+        left: Cycles(left - gets),
         cut: cut,
     }
 }

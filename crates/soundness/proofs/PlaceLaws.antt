@@ -1,9 +1,9 @@
 -- The tests of the task places, case by case: what each answer is, given the tests before it.
-use mathlib.Core.Path.{_≡_, refl, sym}
-use mathlib.Core.Bool.{Bool, true, false, not}
+use mathlib.Core.Path.{_≡_}
+use mathlib.Core.Bool.{true, false}
 use Prim.Native.Nat.{ℕ, _≤_, _<_}
-use lib.Dec.{eqb, ltb}
-use borrow.Author.Tests.{ne-eqb, eq-eqb}
+use lib.Dec.{leb, ltb}
+use borrow.Author.Tests.{ne-eqb, eq-eqb, le-leb}
 use Rattle.rules.specs.declared.Tasks.{Tasks}
 use Rattle.rules.specs.declared.Jobs.{Jobs}
 use Rattle.rules.specs.declared.Job.{Job}
@@ -13,6 +13,11 @@ use Rattle.rules.specs.State.{jobsOf}
 use Rattle.rules.specs.Numbers.{unusedJob, runRight}
 use Rattle.rules.proofs.Ranges.{in-range, too-low, too-high}
 use Rattle.soundness.specs.Parts.{jobRight, jobsPast, tasksRight}
+
+-- a number from 1 on: the most decides
+pub from-one : (most n : ℕ) → 1 ≤ n → upToMost most n ≡ leb n most
+unfolding upToMost
+from-one most n h = rw (le-leb 1 n h)
 
 -- a task with its job
 module _ (j : Job) where
@@ -24,9 +29,13 @@ module _ (j : Job) where
   unfolding jobRight
   reserve-out p r = rw (p, r)
 
-  pub over-right : upToMost mostPeriod (j .period .0) ≡ true → upToMost mostReserve (j .reserve .0) ≡ true → j .over ≡ true → upToMost (j .reserve .0) (j .run .0) ≡ jobRight j
+  pub over-low : upToMost mostPeriod (j .period .0) ≡ true → upToMost mostReserve (j .reserve .0) ≡ true → j .over ≡ true → j .run .0 < 1 → false ≡ jobRight j
   unfolding jobRight runRight
-  over-right p r o = rw (p, r, o)
+  over-low p r o l = rw (too-low (j .reserve .0) (j .run .0) l, p, r, o)
+
+  pub over-right : upToMost mostPeriod (j .period .0) ≡ true → upToMost mostReserve (j .reserve .0) ≡ true → j .over ≡ true → 1 ≤ j .run .0 → leb (j .run .0) (j .reserve .0) ≡ jobRight j
+  unfolding jobRight runRight
+  over-right p r o l = rw (from-one (j .reserve .0) (j .run .0) l, p, r, o)
 
   pub ready-right : upToMost mostPeriod (j .period .0) ≡ true → upToMost mostReserve (j .reserve .0) ≡ true → j .over ≡ false → ltb (j .run .0) (j .reserve .0) ≡ jobRight j
   unfolding jobRight runRight
@@ -49,9 +58,13 @@ module _ (j : Job) where
   unfolding unusedJob
   run-left p r u = rw (eq-eqb (j .period .0) 0 p, eq-eqb (j .reserve .0) 0 r, ne-eqb (j .run .0) 0 u)
 
-  pub mark-left : j .period .0 ≡ 0 → j .reserve .0 ≡ 0 → j .run .0 ≡ 0 → not (j .over) ≡ unusedJob j
+  pub mark-left : j .period .0 ≡ 0 → j .reserve .0 ≡ 0 → j .run .0 ≡ 0 → j .over ≡ true → false ≡ unusedJob j
   unfolding unusedJob
-  mark-left p r u = rw (eq-eqb (j .period .0) 0 p, eq-eqb (j .reserve .0) 0 r, eq-eqb (j .run .0) 0 u)
+  mark-left p r u o = rw (eq-eqb (j .period .0) 0 p, eq-eqb (j .reserve .0) 0 r, eq-eqb (j .run .0) 0 u, o)
+
+  pub nothing-left : j .period .0 ≡ 0 → j .reserve .0 ≡ 0 → j .run .0 ≡ 0 → j .over ≡ false → true ≡ unusedJob j
+  unfolding unusedJob
+  nothing-left p r u o = rw (eq-eqb (j .period .0) 0 p, eq-eqb (j .reserve .0) 0 r, eq-eqb (j .run .0) 0 u, o)
 
 -- the whole task side
 module _ (ts : Tasks) (js : Jobs) where

@@ -1,16 +1,13 @@
 -- What the sums over a table's tasks are: the sum of rule 7, the load of rule 2, and by the law of quotients whether H is right.
 use mathlib.Core.Path.{_≡_, refl, sym, subst, ap, _∙_}
 use mathlib.Core.Bool.{true}
-use mathlib.Core.List.{List}
 use Prim.Native.Nat.{ℕ, zero, suc, _+_, _-_, _*_, _/_, _≤_, _<_, _∣_}
 use native.Mathlib.Nat.{dvd-refl, dvd-zero, dvd-trans, zero-div, eq-zero-of-zero-dvd, eq-one-of-dvd-one, pos-of-ne-zero, not-suc-le-zero, mod-eq-sub-div-mul, mod-eq-zero-of-dvd, dvd-of-mod-eq-zero}
-use native.Mathlib.Numerals.{add-one}
 use native.Mathlib.Omega.{arith}
 use lib.Dec.{eqb}
 use lib.ListN.{length, getD}
 use borrow.Author.Count.{below-more}
 use borrow.Author.Tests.{eqb-true, eq-eqb}
-use Rattle.divisors.specs.Divisors.{gcdOf, lcmAll}
 use Rattle.divisors.proofs.DivisorLaws.{gcd-is, all-each, all-pos}
 use Rattle.divisors.proofs.Quotients.{quotients-least, quotients-one}
 use Rattle.rules.specs.declared.Tasks.{Tasks}

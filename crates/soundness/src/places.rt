@@ -1,39 +1,32 @@
 // The task places of a state: each task's numbers in their ranges, its job's run right, and zeros past the count.
 ghost use mathlib.Core.Path.{_≡_};
 ghost use Rattle.rules.specs.Words.{every};
-ghost use Rattle.rules.specs.Limits.{upToMost};
 ghost use Rattle.rules.specs.State.{jobsOf};
 ghost use Rattle.rules.specs.Numbers.{unusedJob};
 ghost use Rattle.soundness.specs.Parts.{jobRight, jobsPast, tasksRight};
+use crate::ranges;
 use rules::Job;
 use rules::Jobs;
 use rules::Tasks;
-
-// Whether a number is from 1 to a most.
-pub(crate) fn in_range(x: u64, most: u64) -> bool
-    ensures { λ r. ⌜ r ≡ upToMost most x ⌝ }
-{
-    if x < 1 {
-        return false;
-    }
-    x <= most
-}
 
 // No. 3, 4 and the run of the current job: below the reserve while it is not over, then from 1 to the reserve.
 pub(crate) fn job_right(job: Job) -> bool
     ensures { λ r. ⌜ r ≡ jobRight job ⌝ }
 {
     let period = job.period;
-    if !in_range(period.0, 1000000) {
+    if !ranges::in_range(period.0, 1000000) {
         return false;
     }
     let reserve = job.reserve;
-    if !in_range(reserve.0, 1000000000) {
+    if !ranges::in_range(reserve.0, 1000000000) {
         return false;
     }
     let run = job.run;
     if job.over {
-        return in_range(run.0, reserve.0);
+        if run.0 < 1 {
+            return false;
+        }
+        return ranges::at_most(run.0, reserve.0);
     }
     run.0 < reserve.0
 }
@@ -54,7 +47,11 @@ pub(crate) fn unused_job(job: Job) -> bool
     if run.0 != 0 {
         return false;
     }
-    !job.over
+    let mark = job.over;
+    if mark {
+        return false;
+    }
+    true
 }
 
 // Whether every task below the count is right.

@@ -6,7 +6,7 @@ ghost use lib.Dec.{leb, ltb};
 ghost use Rattle.rules.specs.Limits.{mostSpeeds, mostSpeed, mostVolts, upToMost};
 ghost use Rattle.rules.specs.State.{speedsOf, topOf};
 ghost use Rattle.soundness.specs.Parts.{climbing, unusedRung, rungsPast, ladderRight};
-use crate::places;
+use crate::ranges;
 use rules::Ladder;
 use rules::Tally;
 use units::Cycles;
@@ -17,7 +17,7 @@ use units::Volts;
 pub(crate) fn rises(before: Speed, next: Speed) -> bool
     ensures { λ r. ⌜ r ≡ (upToMost mostSpeed (next .0) && ltb (before .0) (next .0)) ⌝ }
 {
-    if !places::in_range(next.0, 1000000) {
+    if !ranges::in_range(next.0, 1000000) {
         return false;
     }
     before.0 < next.0
@@ -27,7 +27,7 @@ pub(crate) fn rises(before: Speed, next: Speed) -> bool
 pub(crate) fn stands(before: Volts, next: Volts) -> bool
     ensures { λ r. ⌜ r ≡ (upToMost mostVolts (next .0) && leb (before .0) (next .0)) ⌝ }
 {
-    if !places::in_range(next.0, 100) {
+    if !ranges::in_range(next.0, 100) {
         return false;
     }
     before.0 <= next.0

@@ -3,7 +3,7 @@ ghost use mathlib.Core.Path.{_≡_};
 ghost use Rattle.divisors.specs.Divisors.{gcdOf};
 ghost use Rattle.units.specs.Units.{cycles};
 ghost use Rattle.rules.specs.Load.{useOf};
-ghost use Rattle.soundness.specs.Parts.{Room, Summable, noSums, withJob, sumsTo, greatTest};
+ghost use Rattle.soundness.specs.Parts.{Room, Summable, withJob, sumsTo, greatTest};
 use rules::Job;
 use rules::Jobs;
 use rules::Tasks;
@@ -22,7 +22,12 @@ pub(crate) struct Sums {
 pub(crate) fn use_of(job: Job) -> Cycles
     ensures { λ r. ⌜ r ≡ cycles (useOf job) ⌝ }
 {
-    if job.over { job.run } else { job.reserve }
+    let run = job.run;
+    let reserve = job.reserve;
+    if job.over {
+        return run;
+    }
+    reserve
 }
 
 // The greatest common divisor with one number more; 1 stays 1.
@@ -41,8 +46,8 @@ pub(crate) fn with_job(sums: Sums, job: Job, great: Ticks) -> Sums
     ensures { λ r. ⌜ r ≡ withJob great sums job ⌝ }
 {
     let period = job.period;
-    let times = great.0 / period.0;
     let reserve = job.reserve;
+    let times = great.0 / period.0;
     let used = use_of(job);
     let full = sums.full;
     let load = sums.load;

@@ -3,6 +3,7 @@ ghost use mathlib.Core.Path.{_≡_};
 ghost use Prim.Native.Nat.{_≤_};
 ghost use Rattle.rules.specs.Limits.{mostSpeed};
 ghost use Rattle.soundness.specs.Parts.{countedWithin, tallyRight};
+use crate::ranges;
 use rules::Tally;
 use units::Cycles;
 use units::Speed;
@@ -24,7 +25,7 @@ pub(crate) fn cycles_within(tally: Tally, most: Cycles) -> bool
         i += 1;
     }
     let idle = tally.idle;
-    idle.0 <= left.0
+    ranges::at_most(idle.0, left.0)
 }
 
 // t at most 1,000,000,000, late and cut each at most 16 x t, counts and idle together at most t x top speed.

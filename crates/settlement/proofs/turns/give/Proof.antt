@@ -5,13 +5,12 @@ use mathlib.Core.Bool.{cond}
 use mathlib.Core.Logic.{⊎-elim}
 use Prim.Native.Nat.{_+_}
 use Rattle.rules.specs.State.{putAt}
-use Rattle.settlement.specs.Parts.{given}
-use Rattle.settlement.proofs.Steps.{cut-more, cut-same}
+use Rattle.settlement.proofs.Steps.{cut-more, cut-same, given-counted}
 use Rattle.settlement.proofs.turns.give.Statement.{statement}
 use Rattle.settlement.proofs.turns.give.Tie as tie
 
-add-t13 : tie.Need-add-t13
-add-t13 c = search needs
+add-t16 : tie.Need-add-t16
+add-t16 c = search needs
 
 mul-run : tie.Need-mul-run
 mul-run c = search needs
@@ -31,31 +30,30 @@ array-set-from-grants c = search needs
 add-cut : tie.Need-add-cut
 add-cut c = search needs
 
-sub-t13 : tie.Need-sub-t13
-sub-t13 c = search needs
+sub-t16 : tie.Need-sub-t16
+sub-t16 c = search needs
 
 returns : tie.Need-returns
-unfolding given putAt
+unfolding putAt
 returns c =
-    let w = c .before .before in
-    let a = w .before .before .before .before .before .before .before .before .before .before .args in
-    let counted : w .if1 .cut ≡ a .sofar .cut + cond (a .part .cut) 1 0 =
+    let a = c .before .before .before .before .before .before .before .before .args in
+    let counted : c .if1 .cut ≡ a .sofar .cut + cond (a .part .cut) 1 0 =
     ⊎-elim
-    (λ v. cut-more _ _ _ (v .0 .taken) (v .1))
-    (λ v. cut-same _ _ _ (v .0 .left) (v .1))
-    (w .if1 .came) in
-    rw counted
+    (λ w. cut-more _ _ _ (w .0 .taken) (w .1))
+    (λ w. cut-same _ _ _ (w .0 .left) (w .1))
+    (c .if1 .came) in
+    given-counted (a .sofar) (a .i) (a .job) (a .part) (c .if1 .cut) counted
 
 pub give-spec : {M : Type 1} → statement M
 give-spec =
     tie.close
     (tie.spec
-    add-t13
+    add-t16
     mul-run
     array-set-from-run
     array-write-over
     mul-grants
     array-set-from-grants
     add-cut
-    sub-t13
+    sub-t16
     returns)

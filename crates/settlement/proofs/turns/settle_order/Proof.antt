@@ -1,9 +1,9 @@
 -- `settle_order` settles place by place: what is left of the order from `k` on, from what is settled so far, comes to the whole.
 use borrow.Author.Needs.{needs}
 use borrow.Author.Tests.{not-true, not-false}
-use mathlib.Core.Path.{_≡_}
+use mathlib.Core.Path.{_≡_, ap, _∙_}
 use mathlib.Core.List.{List}
-use Prim.Native.Nat.{ℕ, _-_}
+use Prim.Native.Nat.{ℕ, _-_, _<_}
 use native.Mathlib.Omega.{arith}
 use lib.ListN.{length, getD, take, length-take}
 use lib.Seq.{getD-take}
@@ -34,8 +34,10 @@ turned : (c : tie.After-turn Inv-loop μ-loop) →
 turned c =
     let w = c .before .before .before in
     let a = w .before .before .before .args in
-    let h = c .before .before .loop-test .taken in
-    rw (getD-take (a .order .count) (a .order .places) (w .loop .k) 0 h, ← c .before .entry-at .ensures) (c .turn .ensures)
+    let h : w .loop .k < a .order .count = omega arith in
+    let here = getD (a .order .places) (w .loop .k) 0 in
+    let at : getD (list (w .before .before .before)) (w .loop .k) 0 ≡ here = getD-take (a .order .count) (a .order .places) (w .loop .k) 0 h in
+    rw at (c .turn .ensures ∙ ap (λ u. turnOf (a .tasks) here u (w .loop .sofar)) (c .before .entry-at .ensures))
 
 loop-holds : tie.Need-loop-holds Inv-loop μ-loop
 loop-holds c = going-start _ _ _ _ (c .before .before .pre .1)
@@ -53,7 +55,7 @@ turn-requires : tie.Need-turn-requires Inv-loop μ-loop
 turn-requires c κs =
     let w = c .before .before in
     let pre = w .before .before .before .pre in
-    (pre .0 .below (w .loop .k) (c .before .loop-test .taken), w .loop .inv .long, omega arith)
+    (pre .0 .below (w .loop .k) (omega arith), w .loop .inv .long, omega arith)
 
 returns : tie.Need-returns Inv-loop μ-loop
 unfolding orderList

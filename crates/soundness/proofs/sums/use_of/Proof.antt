@@ -5,11 +5,11 @@ use Rattle.soundness.proofs.sums.use_of.Tie as tie
 
 returns : tie.Need-returns
 unfolding useOf
-returns c = rw (c .before .if1 .taken)
+returns c = rw (c .if1 .taken)
 
 returns-2 : tie.Need-returns-2
 unfolding useOf
-returns-2 c = rw (c .before .if1 .left)
+returns-2 c = rw (c .if1 .left)
 
 pub use-of-spec : {M : Type 1} → statement M
 use-of-spec = tie.close (tie.spec returns returns-2)

@@ -1,7 +1,7 @@
 -- `with_job` adds one task's terms: each at most 10 ^ 15, and H / P x P is at most H.
 use borrow.Author.Needs.{needs}
 use mathlib.Core.Path.{_≡_, ap, ap₂}
-use Prim.Native.Nat.{ℕ, _+_, _-_, _*_, _/_, _≤_}
+use Prim.Native.Nat.{ℕ, _+_, _-_, _*_, _/_}
 use native.Mathlib.Nat.{div-mul-le-self}
 use native.Mathlib.Omega.{arith}
 use Rattle.units.specs.Units.{ticks, cycles}
@@ -21,7 +21,7 @@ used-is c =
 
 div-times : tie.Need-div-times
 div-times c =
-    let s = c .before .before .before in
+    let s = c .before .before .before .before in
     period-some (s .args .job) (s .pre .right)
 
 use-of-requires : tie.Need-use-of-requires

@@ -1,6 +1,6 @@
 -- `cycles_within` takes the counts off the most: what is left and all counts make the most and the counts from `i` on.
 use borrow.Author.Needs.{needs}
-use mathlib.Core.Path.{_≡_}
+use mathlib.Core.Path.{_≡_, _∙_}
 use Prim.Native.Nat.{_+_, _-_, _≤_}
 use native.Mathlib.Omega.{arith}
 use lib.ListN.{length, drop}
@@ -48,13 +48,16 @@ loop-again c =
     let e : length (a .tally .counts) ≡ 8 = search (needs, length-mapped) in
     (omega arith, counts-turn (a .tally) (w .left .0) (a .most .0) (w .i) (w .inv .1) (omega arith) (u .if1 .left))
 
+at-most-requires : tie.Need-at-most-requires Inv-loop μ-loop
+at-most-requires c κs = search needs
+
 returns-2 : tie.Need-returns-2 Inv-loop μ-loop
 returns-2 c =
-    let t = c .before .before .before in
+    let t = c .before .before in
     let a = t .before .before .before .args in
     let w = t .before .loop in
     let e : length (a .tally .counts) ≡ 8 = search (needs, length-mapped) in
-    idle-decides (a .tally) (w .left .0) (a .most .0) (w .i) (w .inv .1) (omega arith)
+    c .at-most .ensures ∙ idle-decides (a .tally) (w .left .0) (a .most .0) (w .i) (w .inv .1) (omega arith)
 
 pub cycles-within-spec : {M : Type 1} → statement M
 cycles-within-spec =
@@ -69,4 +72,5 @@ cycles-within-spec =
     add-i
     loop-less
     loop-again
+    at-most-requires
     returns-2)

@@ -6,18 +6,25 @@ use Rattle.soundness.proofs.tallies.tally_right.Statement.{statement}
 use Rattle.soundness.proofs.tallies.tally_right.Tie as tie
 
 returns : tie.Need-returns
-returns c = long-done _ _ _ (c .if1 .taken)
+returns c =
+    let a = c .before .before .args in
+    long-done (a .done) (a .tally) (a .top) (c .if1 .taken)
 
 mul-most : tie.Need-mul-most
 mul-most c = search needs
 
 returns-2 : tie.Need-returns-2
-returns-2 c = late-over _ _ _ (c .before .before .before .if1 .left) (c .if2 .taken)
+returns-2 c =
+    let d = c .before .before .before in
+    let a = d .before .before .args in
+    late-over (a .done) (a .tally) (a .top) (d .if1 .left) (c .if2 .taken)
 
 returns-3 : tie.Need-returns-3
 returns-3 c =
     let l = c .before .before in
-    cut-over _ _ _ (l .before .before .before .if1 .left) (l .if2 .left) (c .if3 .taken)
+    let d = l .before .before .before in
+    let a = d .before .before .args in
+    cut-over (a .done) (a .tally) (a .top) (d .if1 .left) (l .if2 .left) (c .if3 .taken)
 
 cycles-in-requires : tie.Need-cycles-in-requires
 cycles-in-requires c κs = search needs
@@ -30,8 +37,9 @@ returns-4 c =
     let k = c .before .before in
     let l = k .before .before in
     let d = l .before .before .before in
+    let s = d .before .before in
     c .cycles-within .ensures
-    ∙ cycles-decide _ _ _ (d .before .before .pre) (d .if1 .left) (l .if2 .left) (k .if3 .left) _ (c .before .cycles-in .ensures)
+    ∙ cycles-decide (s .args .done) (s .args .tally) (s .args .top) (s .pre) (d .if1 .left) (l .if2 .left) (k .if3 .left) _ (c .before .cycles-in .ensures)
 
 pub tally-right-spec : {M : Type 1} → statement M
 tally-right-spec =

@@ -1,0 +1,48 @@
+-- The laws of `total`: over the places of a list, at its last place, of smaller terms, of a factor, after a store. By induction on the list or on its number of places.
+use mathlib.Core.Path.{_≡_, refl, sym, ap, _∙_}
+use mathlib.Core.List.{List, [], _∷_}
+use Prim.Native.Nat.{ℕ, zero, suc, suc-le-suc, _+_, _*_, _≤_, _<_}
+use native.Mathlib.Nat.{le-of-suc-le-suc, not-suc-le-zero, mul-zero, mul-add, le-refl}
+use native.Mathlib.Omega.{arith}
+use lib.ListN.{length, getD, set}
+use Rattle.rules.specs.Words.{upTo, total}
+
+-- a sum over the places of a list of values is the sum over the values
+pub total-places : (f g : ℕ → ℕ) (n : ℕ) → total f (upTo n g) ≡ total (λ i. f (g i)) (upTo n (λ i. i))
+unfolding total upTo
+total-places f g zero = refl
+total-places f g (suc n) =
+    ap (λ x. f (g 0) + x)
+    (total-places f (λ i. g (suc i)) n ∙ sym (total-places (λ i. f (g i)) suc n))
+
+-- a sum of smaller terms is smaller
+pub total-mono : (f g : ℕ → ℕ) (n : ℕ) → ((i : ℕ) → i < n → f i ≤ g i) → total f (upTo n (λ i. i)) ≤ total g (upTo n (λ i. i))
+unfolding total upTo
+total-mono f g zero h = le-refl 0
+total-mono f g (suc n) h =
+    let first : f 0 ≤ g 0 = h 0 (omega arith) in
+    let rest : total (λ i. f (suc i)) (upTo n (λ i. i)) ≤ total (λ i. g (suc i)) (upTo n (λ i. i)) = total-mono (λ i. f (suc i)) (λ i. g (suc i)) n (λ i l. h (suc i) (suc-le-suc l)) in
+    omega (arith, first, rest, total-places f suc n, total-places g suc n)
+
+-- a factor of every term is one of the sum
+pub total-times : (k : ℕ) (f : ℕ → ℕ) (l : List ℕ) → total (λ i. k * f i) l ≡ k * total f l
+unfolding total
+total-times k f [] = sym (mul-zero k)
+total-times k f (x ∷ l) = ap (λ y. k * f x + y) (total-times k f l) ∙ sym (mul-add k (f x) (total f l))
+
+-- the last place apart
+pub total-last : (f : ℕ → ℕ) (n : ℕ) → total f (upTo (suc n) (λ i. i)) ≡ total f (upTo n (λ i. i)) + f n
+unfolding total upTo
+total-last f zero = omega arith
+total-last f (suc n) =
+    let rest : total (λ i. f (suc i)) (upTo (suc n) (λ i. i)) ≡ total (λ i. f (suc i)) (upTo n (λ i. i)) + f (suc n) = total-last (λ i. f (suc i)) n in
+    omega (arith, rest, total-places f suc (suc n), total-places f suc n)
+
+-- a store changes a sum by what it puts in and what it takes away
+pub total-set : {A : Type 0} (f : A → ℕ) (l : List A) (i : ℕ) (x d : A) → i < length l → total f (set l i x) + f (getD l i d) ≡ total f l + f x
+unfolding total
+total-set f [] i x d h = absurd (not-suc-le-zero h)
+total-set f (y ∷ l) zero x d h = omega arith
+total-set f (y ∷ l) (suc i) x d h =
+    let rest : total f (set l i x) + f (getD l i d) ≡ total f l + f x = total-set f l i x d (le-of-suc-le-suc h) in
+    omega arith
