@@ -7,13 +7,11 @@ mod tables;
 ghost use mathlib.Core.Path.{_≡_};
 ghost use lib.ListN.{length};
 ghost use Rattle.rules.specs.Calls.{startOf, nowOf, tickOf, grantsOf, energyOf};
-use rules::Choice;
 use rules::Started;
 use rules::State;
 use rules::Ticked;
 use rules::Told;
 use rules::Used;
-use units::Speed;
 
 // start: from lent lists of periods, reserves, speeds and volts to 0 and the fresh state, or to the smallest number of 1 to 8 that applies and the all-zero state.
 pub fn start(periods: &[u64], reserves: &[u64], speeds: &[u64], volts: &[u64]) -> Started

@@ -1,22 +1,21 @@
 -- A sound state goes to a sound state by a tick that keeps rule 4, at any speed up to the top one: each fact of soundness after the tick from those before it.
-use mathlib.Core.Path.{_≡_, refl, sym, ap, _∙_}
-use mathlib.Core.Bool.{Bool, true, false, cond, not, _&&_}
+use mathlib.Core.Path.{_≡_, ap, _∙_}
+use mathlib.Core.Bool.{Bool, true, false, cond, _&&_}
 use mathlib.Core.List.{List, []}
 use Prim.Native.Nat.{ℕ, _+_, _*_, _%_, _≤_, _<_}
 use native.Mathlib.Nat.{add-mul}
 use native.Mathlib.Omega.{arith}
-use lib.Dec.{eqb, ltb}
-use lib.ListN.{length, getD, set, length-set}
+use lib.Dec.{eqb}
+use lib.ListN.{getD, length-set}
 use lib.Seq.{getD-set-other}
 use borrow.Author.Tests.{lt-ltb}
 use Rattle.units.specs.Units.{cycles}
 use Rattle.units.specs.declared.Cycles.{Cycles}
 use Rattle.rules.specs.declared.Job.{Job}
-use Rattle.rules.specs.declared.Settling.{Settling}
 use Rattle.rules.specs.declared.State.{State}
 use Rattle.rules.specs.declared.Ticked.{Ticked}
 use Rattle.rules.specs.Words.{total}
-use Rattle.rules.specs.Limits.{mostTasks, mostSpeeds, mostTicks}
+use Rattle.rules.specs.Limits.{mostSpeeds, mostTicks}
 use Rattle.rules.specs.State.{Shaped, periodAt, reserveAt, speedAt, voltsAt, countAt, jobAt, speedsOf, topOf}
 use Rattle.rules.specs.Choice.{readyAt, deadlineAt, orderOf, speedPlace, speedOf}
 use Rattle.rules.specs.Settlement.{atTickStart, settled, allAllowed, overEntriesZero, keepsRule4}

@@ -6,7 +6,7 @@ use native.Mathlib.Nat.{add-comm, add-le-add, suc-mul, mul-le-mul, mul-le-mul-ri
 use native.Mathlib.Omega.{arith}
 use lib.Dec.{ltb}
 use lib.ListN.{length, getD}
-use borrow.Author.Tests.{le-leb}
+use borrow.Author.Tests.{le-leb, leb-true, leb-false}
 use Rattle.rules.specs.declared.Job.{Job}
 use Rattle.rules.specs.declared.Ladder.{Ladder}
 use Rattle.rules.specs.declared.State.{State}
@@ -20,7 +20,7 @@ use Rattle.rules.specs.Numbers.{runRight}
 use Rattle.rules.proofs.Lists.{length-upTo, getD-upTo}
 use Rattle.rules.proofs.Ranges.{range-from, range-to}
 use Rattle.rules.proofs.Climbs.{rise-range, rise-order, rise-top, stay-range, stay-order}
-use Rattle.rules.proofs.Lowest.{lowest-fits, fit-below, below-some}
+use Rattle.rules.proofs.Lowest.{lowest-fits, before-fails, fit-below, below-some}
 use Rattle.rules.proofs.Soundness.{Sound, length-speeds, length-volts}
 
 -- the most that one term of the load comes to: a reserve of 10 ^ 9 in each of 10 ^ 6 jobs
@@ -98,6 +98,16 @@ module _ (s : State) (f : Sound s) where
   pub speed-carries : fitsOf s (speedOf s) ≡ true
   unfolding speedOf speedPlace
   speed-carries = lowest-fits (fitsOf s) (speedsOf (s .ladder)) place-in
+
+  -- so the speed answered carries the load in numbers,
+  pub speed-enough : loadOf s ≤ speedOf s * s .tasks .great .0
+  unfolding fitsOf carries
+  speed-enough = leb-true (loadOf s) (speedOf s * s .tasks .great .0) speed-carries
+
+  -- and no speed listed before it does
+  pub lower-short : (i : ℕ) → i < speedPlace s → getD (speedsOf (s .ladder)) i 0 * s .tasks .great .0 < loadOf s
+  unfolding fitsOf carries speedPlace
+  lower-short i h = leb-false (loadOf s) (getD (speedsOf (s .ladder)) i 0 * s .tasks .great .0) (before-fails (fitsOf s) (speedsOf (s .ladder)) i h)
 
 -- what stands at a place of the lists
 pub speeds-at : (l : Ladder) (i : ℕ) → i < l .count → getD (speedsOf l) i 0 ≡ speedAt l i

@@ -1,14 +1,14 @@
 -- Rule 4 over the whole order: what holds at the tick's start, after each job and at the end. By induction on the order, one job by `Shares`.
 use mathlib.Core.Path.{_≡_, refl, sym, ap, _∙_}
-use mathlib.Core.Bool.{Bool, true, false, cond, not, _&&_}
+use mathlib.Core.Bool.{Bool, true, false, cond, not}
 use mathlib.Core.List.{List, [], _∷_}
 use Prim.Native.Nat.{ℕ, zero, suc, _+_, _≤_, _<_}
 use native.Mathlib.Decide.{ℕ-discrete}
 use native.Mathlib.Omega.{arith}
 use lib.Dec.{eqb, ltb}
-use lib.ListN.{length, getD, set, length-set}
+use lib.ListN.{length, getD, length-set}
 use lib.Seq.{getD-set-other}
-use borrow.Author.Tests.{eqb-true, eqb-false, ltb-true, not-true, not-false}
+use borrow.Author.Tests.{eqb-true, eqb-false, ltb-true, not-true}
 use Rattle.units.specs.Units.{cycles}
 use Rattle.units.specs.declared.Cycles.{Cycles}
 use Rattle.rules.specs.declared.Tasks.{Tasks}

@@ -4,7 +4,7 @@ use mathlib.Core.Bool.{Bool, true, false, false≢true, cond, _&&_}
 use Prim.Native.Nat.{ℕ, _+_, _-_, _≤_, _<_, min}
 use native.Mathlib.Omega.{arith}
 use lib.Dec.{eqb, ltb, leb}
-use borrow.Author.Tests.{eqb-true, eqb-false, eq-eqb, ne-eqb, ltb-true, leb-true, lt-ltb, le-leb}
+use borrow.Author.Tests.{eqb-true, eqb-false, eq-eqb, ne-eqb, ltb-true, leb-true, lt-ltb}
 use Rattle.rules.specs.declared.Job.{Job}
 use Rattle.rules.specs.Limits.{upToMost}
 use Rattle.rules.specs.Settlement.{byBullet, remaining, usesUp, allowed, granted, isCut, isOver}

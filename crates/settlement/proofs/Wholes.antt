@@ -1,22 +1,20 @@
 -- The whole settlement from its parts: what `order_of` answers is an order that can be settled, and rule 4's last bullet comes first.
-use mathlib.Core.Path.{_≡_, refl, ap, _∙_}
+use mathlib.Core.Path.{_≡_, refl}
 use mathlib.Core.Bool.{true, false}
 use mathlib.Core.List.{List}
-use Prim.Native.Nat.{ℕ, _≤_, _<_, min}
+use Prim.Native.Nat.{ℕ, _≤_, min}
 use native.Mathlib.Omega.{arith}
-use lib.ListN.{length, getD}
+use lib.ListN.{length}
 use Rattle.units.specs.Units.{cycles}
 use Rattle.rules.specs.declared.Tasks.{Tasks}
 use Rattle.rules.specs.declared.Jobs.{Jobs}
 use Rattle.rules.specs.declared.Dues.{Dues}
-use Rattle.rules.specs.declared.Order.{Order}
 use Rattle.rules.specs.Limits.{mostTasks}
 use Rattle.rules.specs.Settlement.{overEntriesZero, atTickStart}
 use Rattle.rules.proofs.Lists.{length-upTo}
 use Rattle.rules.proofs.Orders.{order-below, order-short}
 use Rattle.choosing.specs.Choosing.{dueIn, readyIn, orderIn, listed}
 use Rattle.choosing.proofs.Agrees.{listed-list, listed-long, listed-below}
-use Rattle.settlement.specs.declared.Settled.{Settled}
 use Rattle.settlement.specs.Settled.{settledOf}
 use Rattle.settlement.specs.Parts.{Placed, Begun, orderList, settledFrom}
 

@@ -4,7 +4,6 @@ use mathlib.Core.Path.{_≡_, ap, _∙_}
 use mathlib.Core.Bool.{true}
 use Prim.Native.Nat.{ℕ}
 use native.Mathlib.Omega.{arith}
-use Rattle.rules.specs.declared.Used.{Used}
 use Rattle.rules.specs.Numbers.{sound}
 use Rattle.rules.proofs.Soundness.{Sound, sound-facts}
 use Rattle.rules.proofs.CallRows.{energy-refused, energy-accepted}

@@ -2,7 +2,7 @@
 use borrow.Author.Needs.{needs}
 use mathlib.Core.Path.{_≡_, ap, ap₂, _∙_}
 use mathlib.Core.Bool.{true}
-use Prim.Native.Nat.{ℕ, _≤_, _<_}
+use Prim.Native.Nat.{_<_}
 use native.Mathlib.Omega.{arith}
 use Rattle.units.specs.declared.Speed.{Speed}
 use Rattle.rules.specs.declared.State.{State}
@@ -10,7 +10,7 @@ use Rattle.rules.specs.declared.Choice.{Choice}
 use Rattle.rules.specs.Limits.{mostSpeeds}
 use Rattle.rules.specs.Choice.{speedPlace}
 use Rattle.rules.specs.Numbers.{sound}
-use Rattle.rules.proofs.Soundness.{Sound, sound-facts}
+use Rattle.rules.proofs.Soundness.{sound-facts}
 use Rattle.rules.proofs.Loads.{some-carries}
 use Rattle.rules.proofs.CallRows.{all-done, not-all-done, now-9, now-10, now-0, now-refused, now-accepted}
 use Rattle.choosing.specs.Choosing.{choiceIn}

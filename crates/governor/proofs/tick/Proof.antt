@@ -1,17 +1,15 @@
 -- `tick` is the survey, the rows 10 to 13, and rules 4 and 5; the grants are written last, when nothing can be refused any more.
 use borrow.Author.Needs.{needs}
-use mathlib.Core.Path.{_≡_, sym, ap, ap₂, _∙_}
+use mathlib.Core.Path.{_≡_, ap, ap₂, _∙_}
 use mathlib.Core.Bool.{true, false}
-use mathlib.Core.List.{List}
-use Prim.Native.Nat.{ℕ, _≤_, _<_}
+use Prim.Native.Nat.{_<_}
 use native.Mathlib.Omega.{arith}
 use lib.ListN.{length, getD}
 use Rattle.units.specs.Units.{cycles}
-use Rattle.units.specs.declared.Speed.{Speed}
 use Rattle.rules.specs.declared.State.{State}
 use Rattle.rules.specs.declared.Settling.{Settling}
 use Rattle.rules.specs.Words.{upTo}
-use Rattle.rules.specs.Limits.{mostTasks, mostSpeeds}
+use Rattle.rules.specs.Limits.{mostSpeeds}
 use Rattle.rules.specs.State.{Shaped}
 use Rattle.rules.specs.Choice.{speedPlace, speedOf}
 use Rattle.rules.specs.Settlement.{settled, keepsRule4}
@@ -21,8 +19,6 @@ use Rattle.rules.proofs.Lists.{length-mapped}
 use Rattle.rules.proofs.Soundness.{Sound, sound-facts}
 use Rattle.rules.proofs.Loads.{some-carries}
 use Rattle.rules.proofs.CallRows.{all-done, not-all-done, tick-9, tick-10, tick-11-report, tick-11-grants, tick-13, tick-0, tick-accepted, grants-written}
-use Rattle.choosing.specs.Choosing.{duesOf}
-use Rattle.governor.specs.Parts.{Steps}
 use Rattle.governor.proofs.TickLaws.{sound-told, unsound-told, load-told, lawful-told, unlawful-told, outcome-told, settlesAs, tickedAs, place-found, found-listed, found-room, speed-found, settled-found, steps-found}
 use Rattle.governor.proofs.tick.Statement.{statement}
 use Rattle.governor.proofs.tick.Tie as tie

@@ -1,8 +1,7 @@
 -- `energy_of` sums place by place: what is summed and what is left to sum are the whole.
-use Rattle.rules.specs.Limits.{mostSpeeds}
 use borrow.Author.Needs.{needs}
-use mathlib.Core.Path.{_≡_, sym, _∙_}
-use Prim.Native.Nat.{_+_, _-_, _≤_, _<_}
+use mathlib.Core.Path.{_≡_}
+use Prim.Native.Nat.{_+_, _-_, _≤_}
 use native.Mathlib.Omega.{arith}
 use lib.ListN.{drop}
 use Rattle.rules.specs.Words.{upTo, total}

@@ -1,7 +1,5 @@
 -- `release` is `released`: the mark decides whether the job is late.
 use borrow.Author.Needs.{needs}
-use mathlib.Core.Path.{_≡_, refl, sym, ap, _∙_}
-use Rattle.governor.specs.Parts.{released}
 use mathlib.Core.Logic.{⊎-elim}
 use Rattle.rules.specs.State.{putAt}
 use Rattle.governor.proofs.ReleaseLaws.{late-one, late-none}

@@ -1,10 +1,9 @@
 -- `release_all` releases task by task: after `i` turns the first `i` tasks are released whose deadline is the new tick.
 use Rattle.governor.proofs.releasing.release.Reads as release-reads
-use Rattle.rules.specs.Limits.{mostTasks}
 use borrow.Author.Needs.{needs}
-use mathlib.Core.Path.{_≡_, refl, sym, ap, _∙_}
+use mathlib.Core.Path.{_≡_, refl, ap, _∙_}
 use mathlib.Core.Logic.{⊎-elim}
-use Prim.Native.Nat.{_+_, _-_, _≤_, _<_}
+use Prim.Native.Nat.{_-_, _≤_}
 use native.Mathlib.Omega.{arith}
 use Rattle.rules.specs.declared.Releasing.{Releasing}
 use Rattle.governor.specs.Parts.{released, releasedTo}
