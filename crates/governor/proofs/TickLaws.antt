@@ -1,4 +1,4 @@
--- A tick's parts put together: for a sound state what the helper crates answer is what the rules say, and rule 5's sums have room.
+-- A tick's parts put together: for a sound state what the crates below answer is what the rules say, and rule 5's sums have room.
 use mathlib.Core.Path.{_≡_, sym, ap, _∙_}
 use mathlib.Core.Bool.{true, false, cond, not}
 use mathlib.Core.List.{List, [], _∷_}
@@ -86,7 +86,7 @@ module _ (s : State) (report : List ℕ) (r : Settled) (e : r ≡ settlesAs s re
 pub tickedAs : (s : State) (report grants : List ℕ) (n : ℕ) → (n ≡ 0 → ⊥) → tickNumber s report (length grants) ≡ n → (untickedAs n s ≡ tickOf s report (length grants)) × (grants ≡ grantsOf s report grants)
 tickedAs s report grants n z e = (tick-refused s report (length grants) n z e, grants-kept s report grants n z e)
 
--- what the helper crates answer for a sound state
+-- what the crates below answer for a sound state
 module _ (s : State) (f : Sound s) where
   pub place-found : (load place : ℕ) → load ≡ loadOf s → place ≡ lowest (λ x. carries x (s .tasks .great .0) load) (upTo (min (s .ladder .count) mostSpeeds) (speedAt (s .ladder))) → place ≡ speedPlace s
   place-found load place l p =
