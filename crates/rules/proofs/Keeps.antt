@@ -54,7 +54,7 @@ module _ (s : State) (f : Sound s) (shape : Shaped s) (place speed : ℕ) (repor
   done-so = settles s f shape speed report lawful
 
   -- the job of each task after the tick, and of the places past the tasks
-  job-after : (i : ℕ) → i < s .tasks .count → jobAt (s .tasks) (nextOf s place (settled s speed report) .jobs) i ≡ afterRelease (s .done .0 + 1) (periodAt (s .tasks) i) (jobAt (s .tasks) (settled s speed report .jobs) i)
+  pub job-after : (i : ℕ) → i < s .tasks .count → jobAt (s .tasks) (nextOf s place (settled s speed report) .jobs) i ≡ afterRelease (s .done .0 + 1) (periodAt (s .tasks) i) (jobAt (s .tasks) (settled s speed report .jobs) i)
   unfolding nextOf
   job-after i h =
       releases-at (s .tasks) (s .done .0 + 1) _ (s .tasks .count) i

@@ -1,8 +1,9 @@
 -- The rows of start's table, taken apart and put together: what each number says of the tests, and what 0 says of all eight.
-use mathlib.Core.Path.{_≡_, refl, _∙_}
+use mathlib.Core.Path.{_≡_, refl, sym, _∙_}
 use mathlib.Core.Bool.{Bool, true, false, not}
 use mathlib.Core.List.{List, [], _∷_}
 use Prim.Native.Nat.{ℕ, _≤_, _<_}
+use native.Mathlib.Nat.{ne-of-lt}
 use native.Mathlib.Omega.{arith}
 use lib.Dec.{eqb, ltb}
 use lib.ListN.{length}
@@ -30,22 +31,23 @@ module _ (most : ℕ) (xs ys : List ℕ) (e : sameCount most xs ys ≡ true) whe
   unfolding sameCount
   match-same = eqb-true (length ys) (length xs) (both-right (upToMost most (length xs)) (eqb (length ys) (length xs)) e)
 
+-- a row with another number than the answer failed, and the answer is that of the rows after it
+pub row-failed : (b : Bool) (n answer : ℕ) (rows : List (Bool × ℕ)) → (n ≡ answer → ⊥) → firstOf ((b, n) ∷ rows) ≡ answer → b ≡ false
+unfolding firstOf
+row-failed true n answer rows other e = absurd (other e)
+row-failed false n answer rows other e = refl
+
+pub rows-after : (b : Bool) (n answer : ℕ) (rows : List (Bool × ℕ)) → (n ≡ answer → ⊥) → firstOf ((b, n) ∷ rows) ≡ answer → firstOf rows ≡ answer
+unfolding firstOf
+rows-after true n answer rows other e = absurd (other e)
+rows-after false n answer rows other e = e
+
 -- no number: the first test does not hold, and neither does any after it
 pub first-fails : (b : Bool) (n : ℕ) (rows : List (Bool × ℕ)) → 0 < n → firstOf ((b, n) ∷ rows) ≡ 0 → b ≡ false
-unfolding firstOf
-first-fails true n rows p e = absurd (empty e)
-  where
-    empty : n ≡ 0 → ⊥
-    empty z = omega arith
-first-fails false n rows p e = refl
+first-fails b n rows p e = row-failed b n 0 rows (λ z. ne-of-lt p (sym z)) e
 
 pub rest-fails : (b : Bool) (n : ℕ) (rows : List (Bool × ℕ)) → 0 < n → firstOf ((b, n) ∷ rows) ≡ 0 → firstOf rows ≡ 0
-unfolding firstOf
-rest-fails true n rows p e = absurd (empty e)
-  where
-    empty : n ≡ 0 → ⊥
-    empty z = omega arith
-rest-fails false n rows p e = e
+rest-fails b n rows p e = rows-after b n 0 rows (λ z. ne-of-lt p (sym z)) e
 
 -- tests 1 to 6 pass
 pub record Forms (periods reserves speeds volts : List ℕ) : Type 0 where

@@ -1,0 +1,40 @@
+// The calls of divisors, whose contracts state a property: one number only has it.
+ghost use mathlib.Core.Path.{_≡_};
+use divisors::Multiple;
+
+pub(crate) struct Divisors {
+    pub(crate) first: u64,
+    pub(crate) second: u64,
+}
+
+pub(crate) struct Multiples {
+    pub(crate) first: Multiple,
+    pub(crate) second: Multiple,
+}
+
+pub(crate) fn gcd(a: u64, b: u64) -> Divisors
+    ensures { λ r. ⌜ r .first ≡ r .second ⌝ }
+{
+    Divisors {
+        first: divisors::gcd(a, b),
+        second: divisors::gcd(a, b),
+    }
+}
+
+pub(crate) fn lcm(a: u64, b: u64, cap: u64) -> Multiples
+    ensures { λ r. ⌜ r .first ≡ r .second ⌝ }
+{
+    Multiples {
+        first: divisors::lcm(a, b, cap),
+        second: divisors::lcm(a, b, cap),
+    }
+}
+
+pub(crate) fn lcm_of(list: &[u64], cap: u64) -> Multiples
+    ensures { λ r. ⌜ r .first ≡ r .second ⌝ }
+{
+    Multiples {
+        first: divisors::lcm_of(list, cap),
+        second: divisors::lcm_of(list, cap),
+    }
+}

@@ -1,0 +1,156 @@
+// The calls of the crates that the governor stands on.
+ghost use mathlib.Core.Path.{_≡_};
+use admission::Verdict;
+use rules::Choice;
+use rules::Dues;
+use rules::Job;
+use rules::Jobs;
+use rules::Ladder;
+use rules::Order;
+use rules::State;
+use rules::Tasks;
+use settlement::Settled;
+use soundness::Surveyed;
+use units::Cycles;
+use units::Speed;
+use units::Ticks;
+
+pub(crate) struct Counts {
+    pub(crate) first: Cycles,
+    pub(crate) second: Cycles,
+}
+
+pub(crate) struct Tests {
+    pub(crate) first: bool,
+    pub(crate) second: bool,
+}
+
+pub(crate) struct Reads {
+    pub(crate) first: Job,
+    pub(crate) second: Job,
+}
+
+pub(crate) struct Verdicts {
+    pub(crate) first: Verdict,
+    pub(crate) second: Verdict,
+}
+
+pub(crate) struct Deadlines {
+    pub(crate) first: Dues,
+    pub(crate) second: Dues,
+}
+
+pub(crate) struct Orders {
+    pub(crate) first: Order,
+    pub(crate) second: Order,
+}
+
+pub(crate) struct Choices {
+    pub(crate) first: Choice,
+    pub(crate) second: Choice,
+}
+
+pub(crate) struct Places {
+    pub(crate) first: usize,
+    pub(crate) second: usize,
+}
+
+pub(crate) struct Outcomes {
+    pub(crate) first: Settled,
+    pub(crate) second: Settled,
+}
+
+pub(crate) struct Surveys {
+    pub(crate) first: Surveyed,
+    pub(crate) second: Surveyed,
+}
+
+pub(crate) fn cycles_in(speed: Speed, ticks: Ticks) -> Counts
+    ensures { λ r. ⌜ r .first ≡ r .second ⌝ }
+{
+    Counts {
+        first: units::cycles_in(speed, ticks),
+        second: units::cycles_in(speed, ticks),
+    }
+}
+
+pub(crate) fn carries(speed: Speed, ticks: Ticks, load: Cycles) -> Tests
+    ensures { λ r. ⌜ r .first ≡ r .second ⌝ }
+{
+    Tests {
+        first: units::carries(speed, ticks, load),
+        second: units::carries(speed, ticks, load),
+    }
+}
+
+pub(crate) fn job_at(tasks: Tasks, jobs: Jobs, i: usize) -> Reads
+    ensures { λ r. ⌜ r .first ≡ r .second ⌝ }
+{
+    Reads {
+        first: rules::job_at(tasks, jobs, i),
+        second: rules::job_at(tasks, jobs, i),
+    }
+}
+
+pub(crate) fn judge(periods: &[u64], reserves: &[u64], speeds: &[u64], volts: &[u64]) -> Verdicts
+    ensures { λ r. ⌜ r .first ≡ r .second ⌝ }
+{
+    Verdicts {
+        first: admission::judge(periods, reserves, speeds, volts),
+        second: admission::judge(periods, reserves, speeds, volts),
+    }
+}
+
+pub(crate) fn dues_of(done: Ticks, tasks: Tasks) -> Deadlines
+    ensures { λ r. ⌜ r .first ≡ r .second ⌝ }
+{
+    Deadlines {
+        first: choosing::dues_of(done, tasks),
+        second: choosing::dues_of(done, tasks),
+    }
+}
+
+pub(crate) fn order_of(dues: Dues, jobs: Jobs, count: usize) -> Orders
+    ensures { λ r. ⌜ r .first ≡ r .second ⌝ }
+{
+    Orders {
+        first: choosing::order_of(dues, jobs, count),
+        second: choosing::order_of(dues, jobs, count),
+    }
+}
+
+pub(crate) fn earliest(dues: Dues, jobs: Jobs, count: usize) -> Choices
+    ensures { λ r. ⌜ r .first ≡ r .second ⌝ }
+{
+    Choices {
+        first: choosing::earliest(dues, jobs, count),
+        second: choosing::earliest(dues, jobs, count),
+    }
+}
+
+pub(crate) fn lowest_place(ladder: Ladder, great: Ticks, load: Cycles) -> Places
+    ensures { λ r. ⌜ r .first ≡ r .second ⌝ }
+{
+    Places {
+        first: choosing::lowest_place(ladder, great, load),
+        second: choosing::lowest_place(ladder, great, load),
+    }
+}
+
+pub(crate) fn settle(tasks: Tasks, jobs: Jobs, dues: Dues, speed: Speed, report: &[u64]) -> Outcomes
+    ensures { λ r. ⌜ r .first ≡ r .second ⌝ }
+{
+    Outcomes {
+        first: settlement::settle(tasks, jobs, dues, speed, report),
+        second: settlement::settle(tasks, jobs, dues, speed, report),
+    }
+}
+
+pub(crate) fn survey(state: State) -> Surveys
+    ensures { λ r. ⌜ r .first ≡ r .second ⌝ }
+{
+    Surveys {
+        first: soundness::survey(state),
+        second: soundness::survey(state),
+    }
+}

@@ -1,0 +1,9 @@
+pub mod RunLaws
+pub mod Sums
+pub mod SoundRuns
+pub mod Starves
+pub mod Fractions
+pub mod EitherSideRows
+pub mod Books
+pub mod Invariant
+pub mod Promises

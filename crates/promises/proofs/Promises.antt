@@ -1,0 +1,28 @@
+-- The theorems, one for each statement of specs/.
+use Rattle.promises.specs.TurnedAway.{TurnedAwayForLoad}
+use Rattle.promises.specs.PaperTest.{Figure1, Figure4}
+use Rattle.promises.specs.StaysSound.{EveryRunStaysSound}
+use Rattle.promises.specs.EitherSide.{EitherSideOfTheLine}
+use Rattle.promises.proofs.Starves.{some-job-starves}
+use Rattle.promises.proofs.Fractions.{figure-1, figure-4}
+use Rattle.promises.proofs.SoundRuns.{every-run-sound}
+use Rattle.promises.proofs.EitherSideRows.{every-row}
+
+-- Demand 3: a table turned away for load is one that no order of running could serve.
+pub turned-away : TurnedAwayForLoad
+turned-away = some-job-starves
+
+-- Demand 2: the paper's tests, at every common multiple of the periods.
+pub paper-test-1 : Figure1
+paper-test-1 = figure-1
+
+pub paper-test-4 : Figure4
+paper-test-4 = figure-4
+
+-- A run never meets 9.
+pub stays-sound : EveryRunStaysSound
+stays-sound = every-run-sound
+
+-- Document 01, "Either side of the line": (a) to (l).
+pub either-side : EitherSideOfTheLine
+either-side = every-row

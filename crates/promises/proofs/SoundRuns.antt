@@ -1,0 +1,137 @@
+-- Every run stays sound: what start accepts is sound, each accepted tick keeps it so, and t counts the accepted ticks. By induction on the calls.
+use mathlib.Core.Path.{_≡_, refl, sym, ap, _∙_}
+use mathlib.Core.Bool.{Bool, true, false, false≢true, cond, not}
+use mathlib.Core.List.{List, [], _∷_}
+use Prim.Native.Nat.{ℕ, _+_, _<_}
+use native.Mathlib.Omega.{arith}
+use lib.Dec.{eqb}
+use lib.ListN.{length}
+use borrow.Author.Tests.{eqb-true, eqb-false}
+use Rattle.rules.specs.declared.State.{State}
+use Rattle.rules.specs.declared.Used.{Used}
+use Rattle.rules.specs.Words.{firstOf}
+use Rattle.rules.specs.State.{Shaped}
+use Rattle.rules.specs.Limits.{mostTasks, mostSpeeds, mostTicks}
+use Rattle.rules.specs.Choice.{speedPlace, speedOf}
+use Rattle.rules.specs.Counting.{nextOf}
+use Rattle.rules.specs.Numbers.{nowNumber, tickNumber}
+use Rattle.rules.specs.Calls.{tasksFrom, ladderFrom, freshJobs, freshTally, freshState, startOf, nowOf, tickOf, energyOf}
+use Rattle.rules.proofs.Lists.{length-upTo}
+use Rattle.rules.proofs.Tables.{passes}
+use Rattle.rules.proofs.Soundness.{Sound, facts-sound}
+use Rattle.rules.proofs.Loads.{place-below, speed-of-most, some-carries}
+use Rattle.rules.proofs.Fresh.{fresh-facts}
+use Rattle.rules.proofs.CallRows.{all-done, not-all-done, now-10, now-0, energy-accepted}
+use Rattle.rules.proofs.Keeps.{next-sound, next-shaped, entries-allowed}
+use Rattle.promises.specs.Runs.{Table, Call, Step, started, ticked, after, stepOf, steps}
+use Rattle.promises.specs.StaysSound.{EveryRunStaysSound}
+use Rattle.promises.proofs.RunLaws.{Taken, next, facts, by-steps, keeps-all}
+
+-- a sound state, fact by fact, whose arrays have all their places
+pub record SoundAndShaped (s : State) : Type 0 where
+  pub facts : Sound s
+  pub shape : Shaped s
+
+-- an accepted tick keeps it so
+pub sound-next : (s : State) (call : Call) → SoundAndShaped s → Taken s call → SoundAndShaped (next s call)
+sound-next s call kept e =
+    let f = kept .facts in
+    let room = facts s call e .room in
+    let allows = entries-allowed s (call .report) (length (call .grants)) (kept .shape) e in
+    record {
+      facts = next-sound s f (kept .shape) (speedPlace s) (speedOf s) (call .report) room (place-below s f) (speed-of-most s f) allows;
+      shape = next-shaped s f (kept .shape) (speedPlace s) (speedOf s) (call .report) room (place-below s f) (speed-of-most s f) allows;
+    }
+
+-- the arrays of a fresh state have all their places
+fresh-shaped : (great : ℕ) (ps cs ss vs : List ℕ) → Shaped (freshState (tasksFrom great ps cs) (ladderFrom ss vs))
+unfolding freshState tasksFrom ladderFrom freshJobs freshTally
+fresh-shaped great ps cs ss vs =
+    record {
+      periods = length-upTo mostTasks _;
+      reserves = length-upTo mostTasks _;
+      runs = length-upTo mostTasks _;
+      marks = length-upTo mostTasks _;
+      speeds = length-upTo mostSpeeds _;
+      volts = length-upTo mostSpeeds _;
+      counts = length-upTo mostSpeeds _;
+    }
+
+-- what start accepts is so, and no tick is done in it
+module _ (table : Table) (e : started table .number ≡ 0) where
+  pub sound-start : SoundAndShaped (started table .state)
+  unfolding started startOf
+  sound-start =
+      rw e
+      (record {
+        facts = fresh-facts _ _ _ _ (passes (table .periods) (table .reserves) (table .speeds) (table .volts) e);
+        shape = fresh-shaped _ _ _ _ _;
+      })
+
+  start-done : started table .state .done .0 ≡ 0
+  unfolding started startOf freshState
+  start-done = rw e
+
+-- each accepted tick adds 1 to t
+one-more : (s : State) (call : Call) (end : State) (xs : List Step) → SoundAndShaped s → Taken s call → end .done .0 ≡ next s call .done .0 + length xs → end .done .0 ≡ s .done .0 + length (stepOf s call ∷ xs)
+unfolding nextOf
+one-more s call end xs kept e h = omega arith
+
+pub ticks-done : (calls : List Call) (s : State) → SoundAndShaped s → after s calls .done .0 ≡ s .done .0 + length (steps s calls)
+ticks-done = by-steps SoundAndShaped sound-next (λ s end xs. end .done .0 ≡ s .done .0 + length xs) (λ s kept. omega arith) one-more
+
+-- rows do not give the number m where there are none, or where neither the first row nor the rest gives it
+module _ (m : ℕ) where
+  none-first : 0 < m → firstOf [] ≡ m → ⊥
+  unfolding firstOf
+  none-first some e = omega arith
+
+  not-first : (b : Bool) (n : ℕ) (rows : List (Bool × ℕ)) → (b ≡ true → n ≡ m → ⊥) → (firstOf rows ≡ m → ⊥) → firstOf ((b, n) ∷ rows) ≡ m → ⊥
+  unfolding firstOf
+  not-first true n rows here there e = here refl e
+  not-first false n rows here there e = there e
+
+-- what the calls answer of a sound state
+module _ (s : State) (f : Sound s) where
+  -- now: 10 where all ticks are done, and 0 before
+  now-answers : (n : ℕ) → s .done .0 ≡ n → nowOf s .number ≡ cond (eqb n mostTicks) 10 0
+  unfolding nowOf
+  now-answers n e = go (eqb n mostTicks) refl
+    where
+      go : (b : Bool) → eqb n mostTicks ≡ b → nowNumber s ≡ cond b 10 0
+      go true t = now-10 s (facts-sound s f) (all-done s (omega (arith, eqb-true n mostTicks t)))
+      go false t = now-0 s (facts-sound s f) (not-all-done s before) (some-carries s f)
+        where
+          before : s .done .0 < mostTicks
+          before = omega (arith, f .done-most, eqb-false n mostTicks t)
+
+  energy-answers : energyOf s .number ≡ 0
+  energy-answers = ap (λ (r : Used). r .number) (sym (energy-accepted s (facts-sound s f)))
+
+  -- tick: no number but 0, 10, 11 and 13
+  tick-answers : (call : Call) (m : ℕ) → 0 < m → (10 ≡ m → ⊥) → (11 ≡ m → ⊥) → (13 ≡ m → ⊥) → ticked s call .number ≡ m → ⊥
+  unfolding ticked tickOf tickNumber
+  tick-answers call m some not-10 not-11 not-13 =
+      not-first m _ 9 _ (λ t e. false≢true (sym (ap not (facts-sound s f)) ∙ t))
+      (not-first m _ 10 _ (λ t. not-10)
+      (not-first m _ 11 _ (λ t. not-11)
+      (not-first m _ 12 _ (λ t e. false≢true (sym (some-carries s f) ∙ t))
+      (not-first m _ 13 _ (λ t. not-13) (none-first m some)))))
+
+-- A run never meets 9, nor 12, and ends with 10 at its last tick.
+pub every-run-sound : EveryRunStaysSound
+unfolding EveryRunStaysSound
+every-run-sound table e calls =
+    let first = started table .state in
+    let start = sound-start table e in
+    let last = after first calls in
+    let kept : SoundAndShaped last = keeps-all SoundAndShaped sound-next calls first start in
+    let f = kept .facts in
+    record {
+      is-sound = facts-sound last f;
+      is-shaped = kept .shape;
+      now-number = now-answers last f (length (steps first calls)) (omega (arith, ticks-done calls first start, start-done table e));
+      energy-number = energy-answers last f;
+      tick-never-9 = λ call. tick-answers last f call 9 (omega arith) (λ z. omega arith) (λ z. omega arith) (λ z. omega arith);
+      tick-never-12 = λ call. tick-answers last f call 12 (omega arith) (λ z. omega arith) (λ z. omega arith) (λ z. omega arith);
+    }
