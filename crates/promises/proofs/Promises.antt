@@ -1,10 +1,13 @@
 -- The theorems, one for each statement of specs/.
 use Rattle.promises.specs.TurnedAway.{TurnedAwayForLoad}
-use Rattle.promises.specs.PaperTest.{Figure1, Figure4}
+use Rattle.promises.specs.PaperTest.{Figure1, Figure4, LowestSpeedIsTold, EarliestDeadlineIsTold}
+use Rattle.promises.specs.Counts.{CountsComeFromTheGrants}
 use Rattle.promises.specs.StaysSound.{EveryRunStaysSound}
 use Rattle.promises.specs.EitherSide.{EitherSideOfTheLine}
 use Rattle.promises.proofs.Starves.{some-job-starves}
 use Rattle.promises.proofs.Fractions.{figure-1, figure-4}
+use Rattle.promises.proofs.NowTells.{lowest-told, earliest-told}
+use Rattle.promises.proofs.CountsProof.{counts-from-grants}
 use Rattle.promises.proofs.SoundRuns.{every-run-sound}
 use Rattle.promises.proofs.EitherSideRows.{every-row}
 
@@ -12,12 +15,22 @@ use Rattle.promises.proofs.EitherSideRows.{every-row}
 pub turned-away : TurnedAwayForLoad
 turned-away = some-job-starves
 
--- Demand 2: the paper's tests, at every common multiple of the periods.
+-- Demand 2: the paper's tests, at every common multiple of the periods; the lowest speed that carries the load; the earliest deadline.
 pub paper-test-1 : Figure1
 paper-test-1 = figure-1
 
 pub paper-test-4 : Figure4
 paper-test-4 = figure-4
+
+pub lowest-speed : LowestSpeedIsTold
+lowest-speed = lowest-told
+
+pub earliest-deadline : EarliestDeadlineIsTold
+earliest-deadline = earliest-told
+
+-- Demand 2: the counts come from the grants.
+pub counts : CountsComeFromTheGrants
+counts = counts-from-grants
 
 -- A run never meets 9.
 pub stays-sound : EveryRunStaysSound

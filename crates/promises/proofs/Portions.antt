@@ -1,0 +1,211 @@
+-- What an accepted tick does to the job at one place, by its entry and its grant alone. By induction on the order, one job by rule 4's bullets.
+use mathlib.Core.Path.{_≡_, refl, sym, ap, _∙_}
+use mathlib.Core.Bool.{Bool, true, false, false≢true, cond, not, _&&_, _||_}
+use mathlib.Core.List.{List}
+use Prim.Native.Nat.{ℕ, zero, suc, _+_, _-_, _≤_, _<_, min}
+use native.Mathlib.Omega.{arith}
+use lib.Dec.{eqb, ltb, leb}
+use lib.ListN.{getD}
+use borrow.Author.Tests.{eqb-true, eq-eqb, ne-eqb, ltb-true}
+use Rattle.units.specs.Units.{cycles}
+use Rattle.units.specs.declared.Cycles.{Cycles}
+use Rattle.rules.specs.declared.Job.{Job}
+use Rattle.rules.specs.declared.Settling.{Settling}
+use Rattle.rules.specs.declared.State.{State}
+use Rattle.rules.specs.Words.{total}
+use Rattle.rules.specs.Limits.{mostTasks}
+use Rattle.rules.specs.State.{Shaped, jobAt}
+use Rattle.rules.specs.Choice.{orderBy, deadlineAt, readyAt, orderOf}
+use Rattle.rules.specs.Settlement.{byBullet, remaining, usesUp, allowed, granted, isOver, allAllowed, overEntriesZero, atTickStart, settled, keepsRule4}
+use Rattle.rules.specs.Numbers.{runRight}
+use Rattle.rules.proofs.Lists.{both-left, both-right, getD-upTo, upTo-at}
+use Rattle.rules.proofs.Orders.{every-mono, total-insert, order-in, order-out, order-below, order-short, order-apart, order-ready}
+use Rattle.rules.proofs.Stores.{withRun}
+use Rattle.rules.proofs.Places.{run-below, over-most}
+use Rattle.rules.proofs.Shares.{granted-right}
+use Rattle.rules.proofs.Settles.{Settles, settles-begun}
+use Rattle.rules.proofs.Soundness.{Sound}
+use Rattle.promises.specs.Runs.{sumTo}
+use Rattle.promises.proofs.Sums.{sum-none, sum-last, sum-same}
+use Rattle.promises.proofs.Levels.{order-has}
+use Rattle.promises.proofs.SettledPlaces.{grantAt, served, absent, job-kept, grant-kept, Turn, walk-turn, walk-cut}
+
+-- entry u and grant g take the job j to the job k
+pub record Portion (u g : ℕ) (j k : Job) : Type 0 where
+  pub run-is : k .run .0 ≡ j .run .0 + g
+  pub within : j .run .0 + g ≤ j .reserve .0
+  pub was-over : j .over ≡ true → (g ≡ 0) × (u ≡ 0) × (k .over ≡ true)
+  pub no-finish : j .over ≡ false → u ≡ 0 → k .over ≡ eqb (j .run .0 + g) (j .reserve .0)
+  pub finish : j .over ≡ false → (u ≡ 0 → ⊥) → (j .run .0 + g ≡ u) × (k .over ≡ true)
+
+-- a job whose run count is right has run no more than its reserve
+run-most : (j : Job) → runRight j ≡ true → j .run .0 ≤ j .reserve .0
+run-most j r = go (j .over) refl
+  where
+    go : (b : Bool) → j .over ≡ b → j .run .0 ≤ j .reserve .0
+    go true o = over-most j r o
+    go false o = omega (arith, run-below j r o)
+
+-- a job that is over, with entry 0 and grant 0, stays as it is
+over-portion : (u : ℕ) (j : Job) → runRight j ≡ true → j .over ≡ true → u ≡ 0 → Portion u 0 j j
+over-portion u j r o z =
+    record {
+      run-is = omega arith;
+      within = omega (arith, run-most j r);
+      was-over = λ e. (refl, z, o);
+      no-finish = λ e. absurd (false≢true (sym e ∙ o));
+      finish = λ e. absurd (false≢true (sym e ∙ o));
+    }
+
+-- a ready job, by rule 4's bullets
+module _ (left u : ℕ) (j : Job) where
+  -- with entry 0 it is over exactly where its reserve is used up; where nothing is left it is neither
+  over-at-reserve : j .run .0 < j .reserve .0 → u ≡ 0 → isOver left u j ≡ eqb (j .run .0 + granted left u j) (j .reserve .0)
+  unfolding isOver granted byBullet usesUp
+  over-at-reserve below z = rw (eq-eqb u 0 z) (go (eqb left 0))
+    where
+      short : j .run .0 + 0 ≡ j .reserve .0 → ⊥
+      short e = omega (arith, below)
+
+      go : (b : Bool) → cond b false (usesUp left j) ≡ eqb (j .run .0 + cond b 0 (min left (remaining j))) (j .reserve .0)
+      go true = sym (ne-eqb (j .run .0 + 0) (j .reserve .0) short)
+      go false = refl
+
+  -- with another entry it is over at that entry, and something was left
+  over-at-entry : allowed left u j ≡ true → (u ≡ 0 → ⊥) → (j .run .0 + granted left u j ≡ u) × (isOver left u j ≡ true)
+  unfolding allowed granted isOver byBullet
+  over-at-entry a n = rw (ne-eqb u 0 n) (go (eqb left 0) (rw (ne-eqb u 0 n) at a))
+    where
+      go : (b : Bool) → cond b false (ltb (j .run .0) u && leb u (j .reserve .0) && leb (u - j .run .0) left) ≡ true → (j .run .0 + cond b 0 (u - j .run .0) ≡ u) × (cond b false true ≡ true)
+      go true e = absurd (false≢true e)
+      go false e =
+          let range = both-left (ltb (j .run .0) u && leb u (j .reserve .0)) (leb (u - j .run .0) left) e in
+          let above = ltb-true (j .run .0) u (both-left (ltb (j .run .0) u) (leb u (j .reserve .0)) range) in
+          (omega (arith, above), refl)
+
+  -- both together
+  ready-portion : runRight j ≡ true → j .over ≡ false → allowed left u j ≡ true → Portion u (granted left u j) j (served left u j)
+  unfolding withRun
+  ready-portion r o a =
+      record {
+        run-is = refl;
+        within = run-most (served left u j) (granted-right left u j r o a);
+        was-over = λ e. absurd (false≢true (sym o ∙ e));
+        no-finish = λ e. over-at-reserve (run-below j r o);
+        finish = λ e. over-at-entry a;
+      }
+
+-- a job that has its turn
+turn-portion : (u g : ℕ) (j k : Job) → Turn u g j k → Portion u g j k
+turn-portion u g j k t = rw (t .job-is, t .grant-is) (ready-portion (t .left) u j (t .right) (t .ready) (t .may))
+
+-- a sum over the order is the sum over the ready places
+order-sum : (key : ℕ → ℕ) (ready : ℕ → Bool) (f : ℕ → ℕ) (n : ℕ) → total f (orderBy key ready n) ≡ sumTo n (λ i. cond (ready i) (f i) 0)
+unfolding orderBy total
+order-sum key ready f zero = sym (sum-none (λ i. cond (ready i) (f i) 0))
+order-sum key ready f (suc n) = go (ready n) refl (order-sum key ready f n)
+  where
+    term : ℕ → ℕ
+    term i = cond (ready i) (f i) 0
+
+    go : (b : Bool) → ready n ≡ b → total f (orderBy key ready n) ≡ sumTo n term → total f (orderBy key ready (suc n)) ≡ sumTo (suc n) term
+    go true e h =
+        let last : term n ≡ f n = ap (λ (b : Bool). cond b (f n) 0) e in
+        rw (order-in key ready n e) (omega (arith, total-insert key n f (orderBy key ready n), sum-last term n))
+    go false e h =
+        let last : term n ≡ 0 = ap (λ (b : Bool). cond b (f n) 0) e in
+        rw (order-out key ready n e) (omega (arith, sum-last term n))
+
+-- a portion that ends over with entry 0 uses the reserve up
+portion-cut : (u g : ℕ) (j k : Job) → Portion u g j k → _≡_ {A = ℕ} (cond (not (j .over)) (cond (eqb u 0 && k .over) 1 0) 0) (cond (not (j .over) && eqb u 0 && eqb (j .run .0 + g) (j .reserve .0)) 1 0)
+portion-cut u g j k p = go (j .over) (eqb u 0) refl refl
+  where
+    go : (b c : Bool) → j .over ≡ b → eqb u 0 ≡ c → _≡_ {A = ℕ} (cond (not b) (cond (c && k .over) 1 0) 0) (cond (not b && c && eqb (j .run .0 + g) (j .reserve .0)) 1 0)
+    go true c o z = refl
+    go false false o z = refl
+    go false true o z = ap (λ (b : Bool). cond b 1 0) (p .no-finish o (eqb-true u 0 z))
+
+-- the cycles that a settled tick grants to the task at a place
+abbrev pub share : State → ℕ → List ℕ → ℕ → ℕ
+share s speed report i = getD (settled s speed report .grants) i (cycles 0) .0
+
+-- one more is cut: a job that was not over and uses its reserve up with entry 0
+abbrev pub cutAt : State → ℕ → List ℕ → ℕ → ℕ
+cutAt s speed report i =
+    cond (not (jobAt (s .tasks) (s .jobs) i .over) && eqb (getD report i 0) 0 && eqb (jobAt (s .tasks) (s .jobs) i .run .0 + share s speed report i) (jobAt (s .tasks) (s .jobs) i .reserve .0)) 1 0
+
+module _ (s : State) (f : Sound s) (shape : Shaped s) (speed : ℕ) (report : List ℕ) (lawful : keepsRule4 s speed report ≡ true) where
+  abbrev job : ℕ → Job
+  job i = jobAt (s .tasks) (s .jobs) i
+
+  abbrev start : Settling
+  start = atTickStart (s .jobs) speed
+
+  -- both halves of rule 4, and the settlement as it begins
+  over-zeros : overEntriesZero (s .tasks) (s .jobs) report ≡ true
+  unfolding keepsRule4
+  over-zeros = both-left (overEntriesZero (s .tasks) (s .jobs) report) (allAllowed (s .tasks) report (orderOf s) start) lawful
+
+  all-allowed : allAllowed (s .tasks) report (orderOf s) start ≡ true
+  unfolding keepsRule4
+  all-allowed = both-right (overEntriesZero (s .tasks) (s .jobs) report) (allAllowed (s .tasks) report (orderOf s) start) lawful
+
+  begun : Settles (s .tasks) (s .jobs) (s .tasks .count) speed (orderOf s) start
+  unfolding orderOf readyAt
+  begun =
+      let n = s .tasks .count in
+      settles-begun (s .tasks) (s .jobs) n speed (orderOf s) (shape .runs) (shape .marks) (f .tasks-most) (f .run-right)
+      (order-ready (deadlineAt s) (readyAt s) n) (order-below (deadlineAt s) (readyAt s) n)
+      (order-apart (deadlineAt s) (readyAt s) n) (order-short (deadlineAt s) (readyAt s) n)
+
+  no-grant-yet : (i : ℕ) → i < s .tasks .count → grantAt start i ≡ 0
+  unfolding atTickStart
+  no-grant-yet i h = ap (λ (g : Cycles). g .0) (getD-upTo mostTasks (λ k. cycles 0) i (cycles 0) (omega (arith, f .tasks-most)))
+
+  -- a job that is over has entry 0 and is not in the order
+  over-entry : (i : ℕ) → i < s .tasks .count → job i .over ≡ true → getD report i 0 ≡ 0
+  unfolding overEntriesZero
+  over-entry i h o =
+      let here : (not (job i .over) || eqb (getD report i 0) 0) ≡ true =
+      upTo-at (λ k. not (job k .over) || eqb (getD report k 0) 0) (s .tasks .count) (λ k. k) over-zeros i h in
+      eqb-true (getD report i 0) 0 (rw o at here)
+
+  over-absent : (i : ℕ) → job i .over ≡ true → absent i (orderOf s) ≡ true
+  unfolding orderOf readyAt
+  over-absent i o =
+      every-mono (readyAt s) (λ k. not (eqb k i)) differs (orderOf s) (order-ready (deadlineAt s) (readyAt s) (s .tasks .count))
+    where
+      differs : (k : ℕ) → readyAt s k ≡ true → not (eqb k i) ≡ true
+      differs k r = ap not (ne-eqb k i (λ (e : k ≡ i). false≢true (sym (ap not o) ∙ (rw e at r))))
+
+  -- a job that is over keeps its place as it is, a ready one has its turn
+  pub portion : (i : ℕ) → i < s .tasks .count → Portion (getD report i 0) (share s speed report i) (jobAt (s .tasks) (s .jobs) i) (jobAt (s .tasks) (settled s speed report .jobs) i)
+  unfolding settled atTickStart orderOf readyAt
+  portion i h = go (job i .over) refl
+    where
+      go : (b : Bool) → job i .over ≡ b → Portion (getD report i 0) (share s speed report i) (job i) (jobAt (s .tasks) (settled s speed report .jobs) i)
+      go true o =
+          let out = over-absent i o in
+          rw (job-kept (s .tasks) report i (orderOf s) start out, grant-kept (s .tasks) report i (orderOf s) start out, no-grant-yet i h)
+          (over-portion (getD report i 0) (job i) (f .run-right i h) o (over-entry i h o))
+      go false o =
+          turn-portion _ _ _ _
+          (walk-turn (s .tasks) (s .jobs) (s .tasks .count) speed (f .tasks-most) report i (orderOf s) start all-allowed begun
+          (order-has (deadlineAt s) (readyAt s) (s .tasks .count) i h (ap not o)))
+
+  -- the jobs of the order that end over with entry 0, counted place by place
+  pub cut-is : settled s speed report .cut ≡ sumTo (s .tasks .count) (cutAt s speed report)
+  unfolding settled atTickStart orderOf readyAt
+  cut-is =
+      let along = walk-cut (s .tasks) (s .jobs) (s .tasks .count) speed (f .tasks-most) report (orderOf s) start all-allowed begun in
+      let places = sum-same (λ i. cond (readyAt s i) (ends-cut i) 0) (cutAt s speed report) (s .tasks .count) same in
+      omega (arith, along, order-sum (deadlineAt s) (readyAt s) ends-cut (s .tasks .count), places)
+    where
+      end : ℕ → Job
+      end i = jobAt (s .tasks) (settled s speed report .jobs) i
+
+      ends-cut : ℕ → ℕ
+      ends-cut i = cond (eqb (getD report i 0) 0 && end i .over) 1 0
+
+      same : (i : ℕ) → i < s .tasks .count → cond (readyAt s i) (ends-cut i) 0 ≡ cutAt s speed report i
+      same i h = portion-cut (getD report i 0) (share s speed report i) (job i) (end i) (portion i h)

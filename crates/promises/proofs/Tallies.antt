@@ -1,0 +1,151 @@
+-- What a run adds to each speed's count and to idle: a tick's settlement shares its speed out to grants and to what is left. By the accepted ticks.
+use mathlib.Core.Path.{_≡_, refl, sym, ap, _∙_}
+use mathlib.Core.Bool.{true, cond}
+use mathlib.Core.List.{List, [], _∷_}
+use Prim.Native.Nat.{ℕ, zero, suc, _+_, _-_, _≤_, _<_}
+use native.Mathlib.Decide.{ℕ-discrete, decLt}
+use native.Mathlib.Omega.{arith}
+use lib.Dec.{eqb, ltb}
+use lib.ListN.{length, getD}
+use lib.Seq.{getD-set-same, getD-set-other}
+use borrow.Author.Tests.{eq-eqb, ne-eqb, ltb-true}
+use Rattle.units.specs.Units.{cycles}
+use Rattle.units.specs.declared.Cycles.{Cycles}
+use Rattle.rules.specs.declared.Tasks.{Tasks}
+use Rattle.rules.specs.declared.Settling.{Settling}
+use Rattle.rules.specs.declared.State.{State}
+use Rattle.rules.specs.Words.{upTo, total, every}
+use Rattle.rules.specs.Limits.{mostTasks}
+use Rattle.rules.specs.State.{countAt, speedAt}
+use Rattle.rules.specs.Choice.{deadlineAt, readyAt, orderOf, speedPlace, speedOf}
+use Rattle.rules.specs.Settlement.{settleAt, settleAll, atTickStart, settled}
+use Rattle.rules.specs.Counting.{counted, nextOf}
+use Rattle.rules.proofs.Lists.{getD-upTo, every-first, every-rest}
+use Rattle.rules.proofs.Totals.{total-places}
+use Rattle.rules.proofs.Orders.{order-below}
+use Rattle.rules.proofs.Settles.{Settles, grantsSum}
+use Rattle.rules.proofs.Keeps.{settles, entries-allowed}
+use Rattle.rules.proofs.Loads.{place-below, speed-of-at, speed-order}
+use Rattle.promises.specs.Runs.{Call, Step, Each, stepOf, steps, after, granted, sumTo}
+use Rattle.promises.specs.Counts.{grantedAt}
+use Rattle.promises.proofs.RunLaws.{outcome, next, Taken, step-speed, step-grants, by-steps}
+use Rattle.promises.proofs.Sums.{sum-last}
+use Rattle.promises.proofs.SoundRuns.{SoundAndShaped, sound-next}
+
+-- a list of cycles summed over its places
+cycles-places : (l : List Cycles) → total (λ (g : Cycles). g .0) l ≡ sumTo (length l) (λ i. getD l i (cycles 0) .0)
+unfolding total upTo
+cycles-places [] = refl
+cycles-places (x ∷ l) = ap (λ y. x .0 + y) (cycles-places l ∙ sym (total-places (λ i. getD (x ∷ l) i (cycles 0) .0) suc (length l)))
+
+-- terms that are 0 from a place on add nothing
+sum-short : (f : ℕ → ℕ) (n m : ℕ) → n ≤ m → ((i : ℕ) → n ≤ i → i < m → f i ≡ 0) → sumTo m f ≡ sumTo n f
+sum-short f n zero l h = ap (λ k. sumTo k f) (omega arith)
+sum-short f n (suc m) l h = go (decLt m n) (λ (k : n ≤ m). sum-short f n m k (λ i a b. h i a (omega arith)))
+  where
+    go : Dec (m < n) → (n ≤ m → sumTo m f ≡ sumTo n f) → sumTo (suc m) f ≡ sumTo n f
+    go (yes k) r = ap (λ k. sumTo k f) (omega arith)
+    go (no k) r = omega (arith, sum-last f m, r (omega arith), h m (omega arith) (omega arith))
+
+-- a place past those of the order has no part in its settlement
+past-ungranted : (ts : Tasks) (report : List ℕ) (n k : ℕ) → n ≤ k → (o : List ℕ) → every (λ i. ltb i n) o ≡ true → (sofar : Settling) → getD (settleAll ts report o sofar .grants) k (cycles 0) ≡ getD (sofar .grants) k (cycles 0)
+unfolding settleAll settleAt
+past-ungranted ts report n k l [] below sofar = refl
+past-ungranted ts report n k l (i ∷ o) below sofar =
+    past-ungranted ts report n k l o (every-rest (λ x. ltb x n) i o below) (settleAt ts i (getD report i 0) sofar)
+    ∙ getD-set-other (sofar .grants) i k _ (cycles 0) differs
+  where
+    differs : k ≡ i → ⊥
+    differs e = omega (arith, ltb-true i n (every-first (λ x. ltb x n) i o below))
+
+-- one accepted tick
+module _ (s : State) (call : Call) (kept : SoundAndShaped s) (e : Taken s call) where
+  settles-so : Settles (s .tasks) (s .jobs) (s .tasks .count) (speedOf s) [] (outcome s call)
+  settles-so =
+      settles s (kept .facts) (kept .shape) (speedOf s) (call .report)
+      (entries-allowed s (call .report) (length (call .grants)) (kept .shape) e)
+
+  -- the places past the tasks get nothing
+  none-past : (k : ℕ) → s .tasks .count ≤ k → k < mostTasks → getD (outcome s call .grants) k (cycles 0) .0 ≡ 0
+  unfolding settled orderOf atTickStart
+  none-past k l m =
+      let n = s .tasks .count in
+      let below = order-below (deadlineAt s) (readyAt s) n in
+      ap (λ (g : Cycles). g .0)
+      (past-ungranted (s .tasks) (call .report) n k l (orderOf s) below (atTickStart (s .jobs) (speedOf s))
+      ∙ getD-upTo mostTasks (λ i. cycles 0) k (cycles 0) m)
+
+  -- so the step's grants come to what its settlement grants,
+  granted-is : granted (stepOf s call) ≡ grantsSum (outcome s call)
+  unfolding granted
+  granted-is =
+      ap (total (λ g. g)) (step-grants s call e)
+      ∙ total-places (λ g. g) (λ i. getD (outcome s call .grants) i (cycles 0) .0) (s .tasks .count)
+      ∙ sym (sum-short (λ i. getD (outcome s call .grants) i (cycles 0) .0) (s .tasks .count) mostTasks (kept .facts .tasks-most) none-past)
+      ∙ ap (λ n. sumTo n (λ i. getD (outcome s call .grants) i (cycles 0) .0)) (sym (settles-so .grants))
+      ∙ sym (cycles-places (outcome s call .grants))
+
+  -- and with what is left to the tick's speed
+  speed-shared : granted (stepOf s call) + outcome s call .left .0 ≡ stepOf s call .speed
+  speed-shared = omega (arith, granted-is, settles-so .shared, step-speed s call e)
+
+  within-speed : granted (stepOf s call) ≤ stepOf s call .speed
+  within-speed = omega (arith, speed-shared)
+
+  -- the count of its speed, and the others
+  pub count-here : countAt (next s call .tally) (speedPlace s) ≡ countAt (s .tally) (speedPlace s) + granted (stepOf s call)
+  unfolding nextOf counted countAt
+  count-here =
+      let listed = place-below s (kept .facts) in
+      let has-place : speedPlace s < length (s .tally .counts) = omega (arith, kept .shape .counts, kept .facts .speeds-most) in
+      ap (λ (c : Cycles). c .0) (getD-set-same (s .tally .counts) (speedPlace s) _ (cycles 0) has-place)
+      ∙ ap (λ g. countAt (s .tally) (speedPlace s) + g) (sym granted-is)
+
+  pub count-elsewhere : (k : ℕ) → (k ≡ speedPlace s → ⊥) → countAt (next s call .tally) k ≡ countAt (s .tally) k
+  unfolding nextOf counted countAt
+  count-elsewhere k ne = ap (λ (c : Cycles). c .0) (getD-set-other (s .tally .counts) (speedPlace s) k _ (cycles 0) ne)
+
+  -- its speed stands at that place, and at no other
+  pub step-speed-at : stepOf s call .speed ≡ speedAt (s .ladder) (speedPlace s)
+  step-speed-at = step-speed s call e ∙ speed-of-at s (kept .facts)
+
+  speed-only : (k : ℕ) → k < s .ladder .count → (k ≡ speedPlace s → ⊥) → stepOf s call .speed ≡ speedAt (s .ladder) k → ⊥
+  speed-only k l ne same = go (decLt k (speedPlace s))
+    where
+      go : Dec (k < speedPlace s) → ⊥
+      go (yes b) = omega (arith, step-speed-at, speed-order s (kept .facts) k (speedPlace s) b (place-below s (kept .facts)))
+      go (no b) = omega (arith, step-speed-at, speed-order s (kept .facts) (speedPlace s) k (omega arith) l)
+
+  count-tick : (k : ℕ) → k < s .ladder .count → countAt (next s call .tally) k ≡ countAt (s .tally) k + cond (eqb (stepOf s call .speed) (speedAt (s .ladder) k)) (granted (stepOf s call)) 0
+  count-tick k l = go (ℕ-discrete k (speedPlace s))
+    where
+      go : Dec (k ≡ speedPlace s) → countAt (next s call .tally) k ≡ countAt (s .tally) k + cond (eqb (stepOf s call .speed) (speedAt (s .ladder) k)) (granted (stepOf s call)) 0
+      go (yes q) = rw (q, eq-eqb _ _ step-speed-at) count-here
+      go (no ne) = rw (ne-eqb _ _ (speed-only k l ne)) (omega (arith, count-elsewhere k ne))
+
+  idle-tick : next s call .tally .idle .0 ≡ s .tally .idle .0 + (stepOf s call .speed - granted (stepOf s call))
+  unfolding nextOf counted
+  idle-tick = omega (arith, speed-shared)
+
+-- a run: by its accepted ticks
+pub all-within : (calls : List Call) (s : State) → SoundAndShaped s → Each (λ (x : Step). granted x ≤ x .speed) (steps s calls)
+all-within =
+    by-steps SoundAndShaped sound-next (λ s end xs. Each (λ (x : Step). granted x ≤ x .speed) xs)
+    (λ s kept. tt)
+    (λ s call end xs kept e rest. (within-speed s call kept e, rest))
+
+pub counts-run : (calls : List Call) (s : State) → SoundAndShaped s → (k : ℕ) → k < s .ladder .count → countAt (after s calls .tally) k ≡ countAt (s .tally) k + grantedAt (speedAt (s .ladder) k) (steps s calls)
+unfolding grantedAt total nextOf
+counts-run =
+    by-steps SoundAndShaped sound-next
+    (λ s end xs. (k : ℕ) → k < s .ladder .count → countAt (end .tally) k ≡ countAt (s .tally) k + grantedAt (speedAt (s .ladder) k) xs)
+    (λ s kept k l. omega arith)
+    (λ s call end xs kept e rest k l. omega (arith, rest k l, count-tick s call kept e k l))
+
+pub idle-run : (calls : List Call) (s : State) → SoundAndShaped s → after s calls .tally .idle .0 ≡ s .tally .idle .0 + total (λ (x : Step). x .speed - granted x) (steps s calls)
+unfolding total
+idle-run =
+    by-steps SoundAndShaped sound-next
+    (λ s end xs. end .tally .idle .0 ≡ s .tally .idle .0 + total (λ (x : Step). x .speed - granted x) xs)
+    (λ s kept. omega arith)
+    (λ s call end xs kept e rest. omega (arith, rest, idle-tick s call kept e))
