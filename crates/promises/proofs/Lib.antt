@@ -5,6 +5,13 @@ pub mod Levels
 pub mod NowTells
 pub mod Fractions
 pub mod Starves
+pub mod Books
+pub mod OneJob
+pub mod Pays
+pub mod Renews
+pub mod TickBooks
+pub mod Invariant
+pub mod OnTimeProof
 pub mod SettledPlaces
 pub mod Portions
 pub mod Windows
@@ -14,6 +21,4 @@ pub mod TallyEnergy
 pub mod TallyCuts
 pub mod CountsProof
 pub mod EitherSideRows
-pub mod Books
-pub mod Invariant
 pub mod Promises

@@ -1,15 +1,34 @@
 -- The theorems, one for each statement of specs/.
+use Rattle.promises.specs.NeverLate.{NeverLateInAnyRun, FreshIsCovered, AnyTickThatCarriesTheLoad}
+use Rattle.promises.specs.ExactCycles.{ExactlyTheCycles}
 use Rattle.promises.specs.TurnedAway.{TurnedAwayForLoad}
 use Rattle.promises.specs.PaperTest.{Figure1, Figure4, LowestSpeedIsTold, EarliestDeadlineIsTold}
 use Rattle.promises.specs.Counts.{CountsComeFromTheGrants}
 use Rattle.promises.specs.StaysSound.{EveryRunStaysSound}
 use Rattle.promises.specs.EitherSide.{EitherSideOfTheLine}
+use Rattle.promises.proofs.Invariant.{Kept}
+use Rattle.promises.proofs.OnTimeProof.{fresh-covered, any-tick, kept-start, kept-next, kept-over, in-any-run}
+use Rattle.promises.proofs.ExactProof.{exactly-the-cycles}
 use Rattle.promises.proofs.Starves.{some-job-starves}
 use Rattle.promises.proofs.Fractions.{figure-1, figure-4}
 use Rattle.promises.proofs.NowTells.{lowest-told, earliest-told}
 use Rattle.promises.proofs.CountsProof.{counts-from-grants}
 use Rattle.promises.proofs.SoundRuns.{every-run-sound}
 use Rattle.promises.proofs.EitherSideRows.{every-row}
+
+-- Demand 3: never late, in any run; and why, for any tick whose speed carries the load wherever a job is ready.
+pub never-late : NeverLateInAnyRun
+never-late = in-any-run
+
+pub fresh-is-covered : FreshIsCovered
+fresh-is-covered = fresh-covered
+
+pub any-tick-on-time : AnyTickThatCarriesTheLoad
+any-tick-on-time = any-tick
+
+-- Demand 3: exactly the cycles, and never more than the reserve.
+pub exact-cycles : ExactlyTheCycles
+exact-cycles = exactly-the-cycles Kept (λ s k. k .facts) (λ s k. k .shape) kept-next kept-over kept-start
 
 -- Demand 3: a table turned away for load is one that no order of running could serve.
 pub turned-away : TurnedAwayForLoad
