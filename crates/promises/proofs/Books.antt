@@ -1,6 +1,6 @@
 -- What one job owes by d and has room for, times H: the two sides of the books that keep a run on time.
 use mathlib.Core.Path.{_≡_, refl}
-use mathlib.Core.Bool.{cond, not, _&&_}
+use mathlib.Core.Bool.{Bool, true, false, cond, not, _&&_}
 use Prim.Native.Nat.{ℕ, _-_, _*_, _/_}
 use lib.Dec.{leb}
 use Rattle.rules.specs.declared.Job.{Job}
@@ -28,3 +28,30 @@ module _ (s : State) (d i : ℕ) where
   pub room-is : roomAt s d i ≡ room (s .tasks .great .0) (s .done .0) (s .done .0) d (jobAt (s .tasks) (s .jobs) i)
   unfolding roomAt room deadlineAt periodAt jobAt
   room-is = refl
+
+-- both sides, by whether the job is due by d and whether it is over
+module _ (great t d : ℕ) (j : Job) where
+  pub later-owes : leb (deadline t j) d ≡ false → owes great t d j ≡ 0
+  unfolding owes
+  later-owes e = rw e
+
+  pub over-owes : j .over ≡ true → owes great t d j ≡ 0
+  unfolding owes
+  over-owes o = go (leb (deadline t j) d)
+    where
+      go : (b : Bool) → _≡_ {A = ℕ} (cond (b && not (j .over)) (remaining j * great) 0) 0
+      go true = rw o
+      go false = refl
+
+  pub due-owes : leb (deadline t j) d ≡ true → j .over ≡ false → owes great t d j ≡ remaining j * great
+  unfolding owes
+  due-owes e o = rw (e, o)
+
+  module _ (from : ℕ) where
+    pub later-room : leb (deadline t j) d ≡ false → room great t from d j ≡ 0
+    unfolding room
+    later-room e = rw e
+
+    pub due-room : leb (deadline t j) d ≡ true → room great t from d j ≡ useOf j * (great / j .period .0) * (deadline t j - from)
+    unfolding room
+    due-room e = rw e

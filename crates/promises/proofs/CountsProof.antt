@@ -1,28 +1,31 @@
 -- From a fresh start on all counts come from the grants: a run adds to zeros, and the state's arrays hold the table's lists.
-use mathlib.Core.Path.{_≡_, sym, fun-ext}
+use mathlib.Core.Path.{_≡_, sym, ap, fun-ext}
 use mathlib.Core.List.{List}
-use Prim.Native.Nat.{ℕ, _-_, _*_, _≤_, _<_}
+use Prim.Native.Nat.{ℕ, _-_, _*_, _<_}
 use native.Mathlib.Omega.{arith}
-use lib.ListN.{length, getD}
+use lib.ListN.{length, getD, length-map}
 use Rattle.rules.specs.declared.State.{State}
 use Rattle.rules.specs.Words.{total}
 use Rattle.rules.specs.Limits.{mostTasks, mostSpeeds}
 use Rattle.rules.specs.State.{speedAt, voltsAt, countAt, jobAt}
 use Rattle.rules.specs.Counting.{energySum}
 use Rattle.rules.specs.Admission.{greatOf}
-use Rattle.rules.specs.Calls.{tasksFrom, ladderFrom, freshTally, freshState, startOf, energyOf}
-use Rattle.rules.proofs.Tables.{Passes, passes, match-most, match-same}
+use Rattle.rules.specs.Calls.{freshTally, freshState, energyOf}
+use Rattle.rules.proofs.Tables.{match-same}
 use Rattle.rules.proofs.Soundness.{facts-sound}
-use Rattle.rules.proofs.Fresh.{run-fresh, count-fresh, period-laid, reserve-laid, speed-laid, ladder-speeds, ladder-volts}
+use Rattle.rules.proofs.Fresh.{run-fresh, over-fresh, count-fresh, period-laid, reserve-laid, speed-laid, ladder-speeds, ladder-volts}
 use Rattle.rules.proofs.CallRows.{energy-accepted}
-use Rattle.promises.specs.Runs.{Table, Call, Step, started, after, steps, granted, sumTo}
-use Rattle.promises.specs.Counts.{grantedAt, voltsBeside, cutsFrom, CountsComeFromTheGrants}
+use Rattle.promises.specs.Runs.{Table, Call, Step, started, after, steps, grantsTo, entriesOf, granted, sumTo}
+use Rattle.promises.specs.Counts.{grantedAt, voltsBeside, cutJob, CountsComeFromTheGrants}
 use Rattle.promises.proofs.RunLaws.{keeps-all}
 use Rattle.promises.proofs.Sums.{sum-zero, sum-same}
 use Rattle.promises.proofs.SoundRuns.{SoundAndShaped, sound-next, sound-start, ticks-done}
 use Rattle.promises.proofs.Tallies.{all-within, counts-run, idle-run}
 use Rattle.promises.proofs.TallyEnergy.{ladderVolts, stepEnergy, energy-run}
-use Rattle.promises.proofs.TallyCuts.{cutsOn, cuts-run}
+use Rattle.promises.proofs.StartLaws.{started-is, passed, tasks-few, speeds-few, tasks-count, speeds-count, start-done}
+use Rattle.promises.proofs.StepPlaces.{go-fresh}
+use Rattle.promises.proofs.CutWindows.{cuts-of-jobs}
+use Rattle.promises.proofs.TallyCuts.{CutsOnward, RunCuts, cuts-run}
 
 -- the state that start answers, and the state and the accepted ticks after calls from there
 abbrev begun : Table → State
@@ -36,74 +39,58 @@ taken table calls = steps (begun table) calls
 
 -- an accepted start: what stands in its state, in the words of the table
 module _ (table : Table) (e : started table .number ≡ 0) where
-  fresh : begun table ≡ freshState (tasksFrom (greatOf (table .periods)) (table .periods) (table .reserves)) (ladderFrom (table .speeds) (table .volts))
-  unfolding started startOf
-  fresh = rw e
-
-  passed : Passes (table .periods) (table .reserves) (table .speeds) (table .volts)
-  unfolding started startOf
-  passed = passes (table .periods) (table .reserves) (table .speeds) (table .volts) e
-
-  tasks-few : length (table .periods) ≤ mostTasks
-  tasks-few = match-most mostTasks (table .periods) (table .reserves) (passed .forms .tasks-match)
-
-  speeds-few : length (table .speeds) ≤ mostSpeeds
-  speeds-few = match-most mostSpeeds (table .speeds) (table .volts) (passed .forms .speeds-match)
-
-  tasks-count : begun table .tasks .count ≡ length (table .periods)
-  unfolding freshState tasksFrom
-  tasks-count = rw fresh
-
-  speeds-count : begun table .ladder .count ≡ length (table .speeds)
-  unfolding freshState ladderFrom
-  speeds-count = rw fresh
-
-  no-ticks : begun table .done .0 ≡ 0
-  unfolding freshState
-  no-ticks = rw fresh
-
   no-idle : begun table .tally .idle .0 ≡ 0
   unfolding freshState freshTally
-  no-idle = rw fresh
+  no-idle = rw (started-is table e)
 
   no-cut : begun table .tally .cut ≡ 0
   unfolding freshState freshTally
-  no-cut = rw fresh
+  no-cut = rw (started-is table e)
 
   no-count : (k : ℕ) → k < length (table .speeds) → countAt (begun table .tally) k ≡ 0
   unfolding freshState
-  no-count k h = rw fresh (count-fresh k (omega (arith, speeds-few)))
+  no-count k h = rw (started-is table e) (count-fresh k (omega (arith, speeds-few table e)))
 
   no-energy : energySum (begun table .ladder) (begun table .tally) ≡ 0
   unfolding energySum
   no-energy = sum-zero _ (begun table .ladder .count) none
     where
       none : (k : ℕ) → k < begun table .ladder .count → countAt (begun table .tally) k * voltsAt (begun table .ladder) k * voltsAt (begun table .ladder) k ≡ 0
-      none k h = rw (no-count k (omega (arith, speeds-count))) (omega arith)
+      none k h = rw (no-count k (omega (arith, speeds-count table e))) (omega arith)
 
   speed-listed : (k : ℕ) → k < length (table .speeds) → speedAt (begun table .ladder) k ≡ getD (table .speeds) k 0
   unfolding freshState
-  speed-listed k h = rw fresh (speed-laid (table .speeds) (table .volts) k (omega (arith, speeds-few)))
+  speed-listed k h = rw (started-is table e) (speed-laid (table .speeds) (table .volts) k (omega (arith, speeds-few table e)))
 
   volts-listed : ladderVolts (begun table .ladder) ≡ voltsBeside table
   unfolding freshState ladderVolts voltsBeside
   volts-listed = fun-ext same
     where
       as-long : length (table .volts) ≡ length (table .speeds)
-      as-long = match-same mostSpeeds (table .speeds) (table .volts) (passed .forms .speeds-match)
+      as-long = match-same mostSpeeds (table .speeds) (table .volts) (passed table e .forms .speeds-match)
 
       same : (x : ℕ) → ladderVolts (begun table .ladder) x ≡ voltsBeside table x
       same x =
-          rw (fresh, ladder-speeds (table .speeds) (table .volts) speeds-few, ladder-volts (table .speeds) (table .volts) speeds-few as-long)
+          rw (started-is table e, ladder-speeds (table .speeds) (table .volts) (speeds-few table e), ladder-volts (table .speeds) (table .volts) (speeds-few table e) as-long)
 
-  -- a task's first job has run 0 at tick 0
-  cuts-listed : (xs : List Step) (i : ℕ) → i < length (table .periods) → cutsOn (begun table) i xs ≡ cutsFrom i (getD (table .periods) i 0) (getD (table .reserves) i 0) 0 0 xs
+  -- a task's first job is at hand at tick 0, with a whole period to go: its cuts to come are those of all its jobs
+  cuts-listed : (i : ℕ) → i < length (table .periods) → (gs us : List ℕ) (cuts : ℕ) → CutsOnward i (begun table) gs us cuts → sumTo (length gs) (λ job. cutJob (getD (table .reserves) i 0) (getD (table .periods) i 0) job gs us) ≡ cuts
   unfolding freshState jobAt
-  cuts-listed xs i h =
-      let l : i < mostTasks = omega (arith, tasks-few) in
-      let great = greatOf (table .periods) in
-      rw
-      (fresh, period-laid great (table .periods) (table .reserves) i l, reserve-laid great (table .periods) (table .reserves) i l, run-fresh i l)
+  cuts-listed i h gs us cuts to-come =
+      let place : i < begun table .tasks .count = omega (arith, tasks-count table e) in
+      let l : i < mostTasks = omega (arith, tasks-few table e) in
+      let f = sound-start table e .facts in
+      let period-is = period-laid (greatOf (table .periods)) (table .periods) (table .reserves) i l in
+      let reserve-is = reserve-laid (greatOf (table .periods)) (table .periods) (table .reserves) i l in
+      cuts-of-jobs (getD (table .reserves) i 0) (getD (table .periods) i 0) gs us cuts
+      (rw (started-is table e, reserve-is) at (f .reserve-some i place))
+      (rw (started-is table e, period-is) at (f .period-some i place))
+      (rw (started-is table e, reserve-is, period-is, run-fresh i l, over-fresh i l, go-fresh (getD (table .periods) i 0)) at to-come)
+
+-- a task has one grant in each tick
+length-grants : (i : ℕ) (xs : List Step) → length (grantsTo i xs) ≡ length xs
+unfolding grantsTo
+length-grants i xs = length-map xs (λ (x : Step). getD (x .grants) i 0)
 
 -- each count after calls from there
 module _ (table : Table) (e : started table .number ≡ 0) (calls : List Call) where
@@ -111,7 +98,7 @@ module _ (table : Table) (e : started table .number ≡ 0) (calls : List Call) w
   start = sound-start table e
 
   ticks-are : ended table calls .done .0 ≡ length (taken table calls)
-  ticks-are = omega (arith, ticks-done calls (begun table) start, no-ticks table e)
+  ticks-are = omega (arith, ticks-done calls (begun table) start, start-done table e)
 
   counts-are : (k : ℕ) → k < length (table .speeds) → countAt (ended table calls .tally) k ≡ grantedAt (getD (table .speeds) k 0) (taken table calls)
   counts-are k h =
@@ -121,11 +108,24 @@ module _ (table : Table) (e : started table .number ≡ 0) (calls : List Call) w
   idle-is : ended table calls .tally .idle .0 ≡ total (λ (x : Step). x .speed - granted x) (taken table calls)
   idle-is = omega (arith, idle-run calls (begun table) start, no-idle table e)
 
-  cut-of-run : ended table calls .tally .cut ≡ sumTo (length (table .periods)) (λ i. cutsFrom i (getD (table .periods) i 0) (getD (table .reserves) i 0) 0 0 (taken table calls))
+  cut-of-run : ended table calls .tally .cut ≡ sumTo (length (table .periods)) (λ i. sumTo (length (taken table calls)) (λ job. cutJob (getD (table .reserves) i 0) (getD (table .periods) i 0) job (grantsTo i (taken table calls)) (entriesOf i (taken table calls))))
   cut-of-run =
-      let listed = sum-same _ _ (length (table .periods)) (cuts-listed table e (taken table calls)) in
-      let run = rw (tasks-count table e) at (cuts-run calls (begun table) start) in
-      omega (arith, run, listed, no-cut table e)
+      let places = ap (λ n. sumTo n (run .of-task)) (tasks-count table e) in
+      omega (arith, run .together, no-cut table e, places, sum-same cuts-of (run .of-task) (length (table .periods)) same)
+    where
+      xs : List Step
+      xs = taken table calls
+
+      run : RunCuts (begun table) (ended table calls) xs
+      run = cuts-run calls (begun table) start
+
+      cuts-of : ℕ → ℕ
+      cuts-of i = sumTo (length xs) (λ job. cutJob (getD (table .reserves) i 0) (getD (table .periods) i 0) job (grantsTo i xs) (entriesOf i xs))
+
+      same : (i : ℕ) → i < length (table .periods) → cuts-of i ≡ run .of-task i
+      same i h =
+          let to-come = run .to-come i (omega (arith, tasks-count table e)) in
+          rw (length-grants i xs) at (cuts-listed table e i h (grantsTo i xs) (entriesOf i xs) (run .of-task i) to-come)
 
   energy-is : energySum (ended table calls .ladder) (ended table calls .tally) ≡ total (λ x. granted x * voltsBeside table (x .speed) * voltsBeside table (x .speed)) (taken table calls)
   unfolding stepEnergy

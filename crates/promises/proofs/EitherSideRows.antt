@@ -1,5 +1,5 @@
 -- Document 01's table (a) to (l), computed on the definitions.
-use mathlib.Core.Path.{_≡_, refl}
+use mathlib.Core.Path.{refl}
 use Rattle.divisors.specs.Divisors.{euclid, gcdOf, lcmOf, lcmAll}
 use Rattle.rules.specs.Words.{upTo, total, every, firstOf}
 use Rattle.rules.specs.Limits.{upToMost}

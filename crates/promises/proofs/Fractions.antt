@@ -1,5 +1,5 @@
 -- The tests of Figures 1 and 4 are the same at every common multiple: it is H some times over, so both sides are taken so many times, and that cancels.
-use mathlib.Core.Path.{_≡_, sym, ap, subst, _∙_}
+use mathlib.Core.Path.{_≡_, sym, ap, _∙_}
 use mathlib.Core.List.{List, [], _∷_}
 use mathlib.Core.Logic.{_↔_}
 use Prim.Native.Nat.{ℕ, zero, suc, suc-le-suc, _*_, _/_, _%_, _≤_, _<_, _∣_}
@@ -15,8 +15,9 @@ use Rattle.rules.specs.State.{jobAt, jobsOf, periodAt, periodsOf}
 use Rattle.rules.specs.Load.{useOf, load}
 use Rattle.rules.specs.Choice.{loadOf}
 use Rattle.rules.specs.Admission.{greatOf, fullLoad}
-use Rattle.rules.proofs.Lists.{every-at, getD-upTo}
-use Rattle.rules.proofs.Soundness.{sound-facts, length-periods}
+use Rattle.rules.proofs.Lists.{every-at}
+use Rattle.rules.proofs.Soundness.{Sound, sound-facts}
+use Rattle.rules.proofs.GreatLaws.{divides-great}
 use Rattle.promises.specs.PaperTest.{CommonMultiple, Figure1, Figure4}
 
 -- one term of a sum: q times H over a period that divides H
@@ -79,13 +80,10 @@ figure-1 ps cs multiple c s =
     test-times q h s multiple (fullLoad h ps cs) (fullLoad multiple ps cs) (times-some ps multiple c) e
     (ap (λ m. fullLoad m ps cs) e ∙ full-times q h ps cs (all-each ps))
 
--- each job's period divides the great period of its table
-period-divides : (state : State) (i : ℕ) → i < state .tasks .count → jobAt (state .tasks) (state .jobs) i .period .0 ∣ greatOf (periodsOf (state .tasks))
-unfolding greatOf periodsOf periodAt jobAt
-period-divides state i l =
-    let ps : List ℕ = periodsOf (state .tasks) in
-    let at : getD ps i 0 ≡ periodAt (state .tasks) i = getD-upTo (state .tasks .count) (periodAt (state .tasks)) i 0 l in
-    subst (λ (p : ℕ). p ∣ greatOf ps) at (all-each ps i (rw (length-periods state) l))
+-- each job's period divides H
+job-divides : (state : State) → Sound state → (i : ℕ) → i < state .tasks .count → jobAt (state .tasks) (state .jobs) i .period .0 ∣ state .tasks .great .0
+unfolding periodAt jobAt
+job-divides state f i l = divides-great state f i l
 
 -- the load's test: H of a sound state is the great period of its table
 pub figure-4 : Figure4
@@ -95,9 +93,7 @@ figure-4 state is-sound multiple c s =
     let js : List Job = jobsOf (state .tasks) (state .jobs) in
     let q : ℕ = times ps multiple c in
     let h : ℕ = state .tasks .great .0 in
-    let right : h ≡ greatOf ps = sound-facts state is-sound .great-is in
-    let e : multiple ≡ q * h = times-great ps multiple c ∙ ap (λ x. q * x) (sym right) in
-    let each : (i : ℕ) → i < state .tasks .count → jobAt (state .tasks) (state .jobs) i .period .0 ∣ h =
-    λ i l. subst (λ (x : ℕ). jobAt (state .tasks) (state .jobs) i .period .0 ∣ x) (sym right) (period-divides state i l) in
+    let f : Sound state = sound-facts state is-sound in
+    let e : multiple ≡ q * h = times-great ps multiple c ∙ ap (λ x. q * x) (sym (f .great-is)) in
     test-times q h s multiple (load h js) (load multiple js) (times-some ps multiple c) e
-    (ap (λ m. load m js) e ∙ load-times q h (state .tasks .count) (jobAt (state .tasks) (state .jobs)) each)
+    (ap (λ m. load m js) e ∙ load-times q h (state .tasks .count) (jobAt (state .tasks) (state .jobs)) (job-divides state f))

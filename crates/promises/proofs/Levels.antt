@@ -1,7 +1,8 @@
 -- A level of an order: a test whose places come first. In an order by key it is one that holds, with a place, of all before it. By induction on the order.
 use mathlib.Core.Path.{_≡_, refl, sym, ap, _∙_}
 use mathlib.Core.Bool.{Bool, true, false, true≢false, not}
-use mathlib.Core.List.{List, [], _∷_, List·Memᴰ, List·Memᴰ·head, List·Memᴰ·tail, Memᴰ·cast}
+use mathlib.Core.Logic.{_⊎_, inl, inr}
+use mathlib.Core.List.{List, [], _∷_, List·Memᴰ, List·Memᴰ·head, List·Memᴰ·tail, List·Memᴰ·cases-cons, Memᴰ·cast}
 use Prim.Native.Nat.{ℕ, zero, suc, _<_}
 use native.Mathlib.Decide.{ℕ-discrete}
 use native.Mathlib.Omega.{arith}
@@ -17,6 +18,14 @@ use Rattle.rules.proofs.Sorted.{Before, AheadOf, InOrder}
 every-has : (q : ℕ → Bool) (k : ℕ) (o : List ℕ) → every q o ≡ true → List·Memᴰ k o → q k ≡ true
 every-has q k (i ∷ o) e (List·Memᴰ·head z) = rw z (every-first q i o e)
 every-has q k (i ∷ o) e (List·Memᴰ·tail m) = every-has q k o (every-rest q i o e) m
+
+-- an entry of a list that is not its first is one of the rest
+pub mem-rest : (k i : ℕ) (o : List ℕ) → (k ≡ i → ⊥) → List·Memᴰ k (i ∷ o) → List·Memᴰ k o
+mem-rest k i o ne m = go (List·Memᴰ·cases-cons m)
+  where
+    go : (k ≡ i) ⊎ List·Memᴰ k o → List·Memᴰ k o
+    go (inl e) = absurd (ne e)
+    go (inr t) = t
 
 -- behind a place that is not of the level there is none that is
 unfoldable pub LevelFirst : (ℕ → Bool) → List ℕ → Type 0

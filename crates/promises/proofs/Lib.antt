@@ -1,5 +1,6 @@
 pub mod Sums
 pub mod RunLaws
+pub mod StartLaws
 pub mod SoundRuns
 pub mod Levels
 pub mod NowTells
@@ -14,10 +15,12 @@ pub mod Invariant
 pub mod OnTimeProof
 pub mod SettledPlaces
 pub mod Portions
+pub mod StepPlaces
 pub mod Windows
 pub mod ExactProof
 pub mod Tallies
 pub mod TallyEnergy
+pub mod CutWindows
 pub mod TallyCuts
 pub mod CountsProof
 pub mod EitherSideRows

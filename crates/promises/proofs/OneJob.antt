@@ -1,6 +1,6 @@
 -- Rule 4 for one ready job, in the books: a job that is due by d pays what it is granted, and cycles are left behind only by a job that is over.
 use mathlib.Core.Path.{_≡_, refl, sym, ap, _∙_}
-use mathlib.Core.Bool.{Bool, true, false, cond, not, _&&_, and-false}
+use mathlib.Core.Bool.{Bool, true, false, cond}
 use Prim.Native.Nat.{ℕ, _+_, _-_, _*_, _/_, _≤_, _<_, min}
 use native.Mathlib.Nat.{zero-add, zero-mul, mul-le-mul-left, div-mul-le-self}
 use native.Mathlib.Omega.{arith}
@@ -12,60 +12,33 @@ use Rattle.rules.specs.Load.{deadline, useOf}
 use Rattle.rules.specs.Settlement.{byBullet, remaining, usesUp, allowed, granted, isOver}
 use Rattle.rules.specs.Numbers.{runRight}
 use Rattle.rules.proofs.Deadlines.{deadline-most}
-use Rattle.rules.proofs.Ranges.{range-to}
+use Rattle.rules.proofs.Loads.{use-most}
+use Rattle.rules.proofs.Places.{run-below}
 use Rattle.rules.proofs.Stores.{withRun}
-use Rattle.rules.proofs.Shares.{granted-right}
-use Rattle.promises.proofs.Books.{owes, room}
+use Rattle.rules.proofs.Shares.{settledJob, granted-right}
+use Rattle.promises.proofs.Books.{owes, room, over-owes, due-owes, due-room}
 
 -- what a job still has to run
 unfoldable toRun : Job → ℕ
 toRun j = cond (j .over) 0 (remaining j)
 
--- the books of a job, by whether it is due by d and whether it is over
-module _ (great t d : ℕ) (j : Job) where
-  pub over-owes : j .over ≡ true → owes great t d j ≡ 0
-  unfolding owes
-  over-owes o =
-      ap (λ b. cond (leb (deadline t j) d && not b) (remaining j * great) 0) o
-      ∙ ap (λ b. cond b (remaining j * great) 0) (and-false (leb (deadline t j) d))
+-- a job that is due by d owes that, H times
+due-owes-run : (great t d : ℕ) (j : Job) → leb (deadline t j) d ≡ true → owes great t d j ≡ toRun j * great
+unfolding toRun
+due-owes-run great t d j e = go (j .over) refl
+  where
+    go : (b : Bool) → j .over ≡ b → owes great t d j ≡ cond b 0 (remaining j) * great
+    go true o = over-owes great t d j o ∙ sym (zero-mul great)
+    go false o = due-owes great t d j e o
 
-  pub later-owes : leb (deadline t j) d ≡ false → owes great t d j ≡ 0
-  unfolding owes
-  later-owes e = rw e
-
-  pub later-room : (from : ℕ) → leb (deadline t j) d ≡ false → room great t from d j ≡ 0
-  unfolding room
-  later-room from e = rw e
-
-  due-owes : leb (deadline t j) d ≡ true → owes great t d j ≡ toRun j * great
-  unfolding owes toRun
-  due-owes e = rw e (go (j .over))
-    where
-      go : (b : Bool) → cond (not b) (remaining j * great) 0 ≡ cond b 0 (remaining j) * great
-      go true = sym (zero-mul great)
-      go false = refl
-
-  due-room : (from : ℕ) → leb (deadline t j) d ≡ true → room great t from d j ≡ useOf j * (great / j .period .0) * (deadline t j - from)
-  unfolding room
-  due-room from e = rw e
-
--- the cycles that it has to run and those that it ran are its use, and that is within its reserve
-module _ (j : Job) (right : runRight j ≡ true) where
-  use-is : toRun j + j .run .0 ≡ useOf j
-  unfolding toRun remaining useOf runRight
-  use-is = go (j .over) right
-    where
-      go : (b : Bool) → cond b (upToMost (j .reserve .0) (j .run .0)) (ltb (j .run .0) (j .reserve .0)) ≡ true → cond b 0 (j .reserve .0 - j .run .0) + j .run .0 ≡ cond b (j .run .0) (j .reserve .0)
-      go true r = zero-add (j .run .0)
-      go false r = omega (arith, ltb-true (j .run .0) (j .reserve .0) r)
-
-  use-most : useOf j ≤ j .reserve .0
-  unfolding useOf runRight
-  use-most = go (j .over) right
-    where
-      go : (b : Bool) → cond b (upToMost (j .reserve .0) (j .run .0)) (ltb (j .run .0) (j .reserve .0)) ≡ true → cond b (j .run .0) (j .reserve .0) ≤ j .reserve .0
-      go true r = range-to (j .reserve .0) (j .run .0) r
-      go false r = omega arith
+-- the cycles that it has to run and those that it ran are its use
+use-is : (j : Job) → runRight j ≡ true → toRun j + j .run .0 ≡ useOf j
+unfolding toRun remaining useOf runRight
+use-is j right = go (j .over) right
+  where
+    go : (b : Bool) → cond b (upToMost (j .reserve .0) (j .run .0)) (ltb (j .run .0) (j .reserve .0)) ≡ true → cond b 0 (j .reserve .0 - j .run .0) + j .run .0 ≡ cond b (j .run .0) (j .reserve .0)
+    go true r = zero-add (j .run .0)
+    go false r = omega (arith, ltb-true (j .run .0) (j .reserve .0) r)
 
 -- cycles to run are paid by a grant, and by a use that falls at a rate of at most H
 trade : (rest rest' grant uses uses' share time great : ℕ) → rest + uses' ≡ rest' + grant + uses → uses' ≤ uses → share * time ≤ great → rest' * great + uses * share * time + great * grant ≤ rest * great + uses' * share * time
@@ -75,29 +48,21 @@ trade rest rest' grant uses uses' share time great e l m =
     let uses-is : uses ≡ uses' + saved = omega arith in
     omega (arith, ap (λ x. x * great) rest-is, ap (λ x. x * share * time) uses-is, mul-le-mul-left saved m)
 
--- the ready job j once it is settled with entry u, where so much is left
-unfoldable pub settledJob : ℕ → ℕ → Job → Job
-settledJob left u j = withRun j (j .run .0 + granted left u j) (isOver left u j)
-
+-- a ready job that is settled with entry u, where so much is left
 module _ (left u : ℕ) (j : Job) (right : runRight j ≡ true) (ready : j .over ≡ false) where
-  below : j .run .0 < j .reserve .0
-  unfolding runRight
-  below = ltb-true (j .run .0) (j .reserve .0) (rw ready at right)
-
   -- a job that leaves cycles behind is over
   pub left-over : 0 < left - granted left u j → settledJob left u j .over ≡ true
-  unfolding settledJob withRun granted isOver byBullet usesUp remaining
+  unfolding withRun granted isOver byBullet usesUp remaining
   left-over more = go (eqb left 0) (eqb u 0) refl more
     where
       go : (p q : Bool) → eqb left 0 ≡ p → 0 < left - cond p 0 (cond q (min left (j .reserve .0 - j .run .0)) (u - j .run .0)) → cond p false (cond q (eqb (j .run .0 + min left (j .reserve .0 - j .run .0)) (j .reserve .0)) true) ≡ true
       go true q e m = absurd (omega (arith, eqb-true left 0 e))
-      go false true e m = eq-eqb (j .run .0 + min left (j .reserve .0 - j .run .0)) (j .reserve .0) (omega (arith, below))
+      go false true e m = eq-eqb (j .run .0 + min left (j .reserve .0 - j .run .0)) (j .reserve .0) (omega (arith, run-below j right ready))
       go false false e m = refl
 
   module _ (fits : allowed left u j ≡ true) where
     -- its run count is still right
     still-right : runRight (settledJob left u j) ≡ true
-    unfolding settledJob
     still-right = granted-right left u j right ready fits
 
     -- what it has to run falls by its grant and by what its use falls
@@ -105,14 +70,14 @@ module _ (left u : ℕ) (j : Job) (right : runRight j ≡ true) (ready : j .over
     balance = omega (arith, use-is j right, use-is (settledJob left u j) still-right, ran)
       where
         ran : settledJob left u j .run .0 ≡ j .run .0 + granted left u j
-        ran = unfold settledJob withRun in refl
+        ran = unfold withRun in refl
 
     -- and its use only falls
     use-falls : useOf (settledJob left u j) ≤ useOf j
     use-falls = omega (arith, use-most (settledJob left u j) still-right, same-reserve, whole)
       where
         same-reserve : settledJob left u j .reserve .0 ≡ j .reserve .0
-        same-reserve = unfold settledJob withRun in refl
+        same-reserve = unfold withRun in refl
 
         whole : useOf j ≡ j .reserve .0
         whole = unfold useOf in rw ready
@@ -126,15 +91,15 @@ module _ (left u : ℕ) (j : Job) (right : runRight j ≡ true) (ready : j .over
           omega (arith, div-mul-le-self great (j .period .0), mul-le-mul-left (great / j .period .0) ahead)
 
       due-still : leb (deadline t (settledJob left u j)) d ≡ true
-      unfolding deadline settledJob withRun
+      unfolding deadline withRun
       due-still = due
 
       room-after : room great t (t + 1) d (settledJob left u j) ≡ useOf (settledJob left u j) * (great / j .period .0) * (deadline t j - (t + 1))
-      unfolding deadline settledJob withRun
+      unfolding deadline withRun
       room-after = due-room great t d (settledJob left u j) (t + 1) due-still
 
       pub due-pays : owes great t d (settledJob left u j) + room great t (t + 1) d j + great * granted left u j ≤ owes great t d j + room great t (t + 1) d (settledJob left u j)
       due-pays =
-          rw (due-owes great t d j due, due-owes great t d (settledJob left u j) due-still, due-room great t d j (t + 1) due, room-after)
+          rw (due-owes-run great t d j due, due-owes-run great t d (settledJob left u j) due-still, due-room great t d j (t + 1) due, room-after)
           (trade (toRun j) (toRun (settledJob left u j)) (granted left u j) (useOf j) (useOf (settledJob left u j)) _ _ great
           balance use-falls rate-most)

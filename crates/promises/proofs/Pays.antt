@@ -1,14 +1,12 @@
 -- A settled tick pays what is due: after it the jobs due by d owe no more than they still have room for. By induction on the order, which has them first.
 use mathlib.Core.Path.{_≡_, refl, sym, ap, _∙_}
 use mathlib.Core.Bool.{Bool, true, false, true≢false, false≢true, not}
-use mathlib.Core.Logic.{_⊎_, inl, inr}
-use mathlib.Core.List.{List, [], _∷_, List·Memᴰ, List·Memᴰ·not-nil, List·Memᴰ·cases-cons}
+use mathlib.Core.List.{List, [], _∷_, List·Memᴰ, List·Memᴰ·not-nil}
 use Prim.Native.Nat.{ℕ, _+_, _*_, _≤_, _<_}
 use native.Mathlib.Decide.{ℕ-discrete}
 use native.Mathlib.Omega.{arith}
-use lib.Dec.{leb, ltb}
+use lib.Dec.{leb}
 use lib.ListN.{getD}
-use borrow.Author.Tests.{ltb-true, not-true}
 use Rattle.rules.specs.declared.Tasks.{Tasks}
 use Rattle.rules.specs.declared.Jobs.{Jobs}
 use Rattle.rules.specs.declared.Job.{Job}
@@ -19,18 +17,17 @@ use Rattle.rules.specs.State.{Shaped, periodAt, jobAt}
 use Rattle.rules.specs.Load.{deadline}
 use Rattle.rules.specs.Choice.{deadlineAt, readyAt, orderOf}
 use Rattle.rules.specs.Settlement.{allowed, granted, settleAt, settleAll, allAllowed, atTickStart, settled}
-use Rattle.rules.proofs.Lists.{both-left, both-right, every-first}
-use Rattle.rules.proofs.Orders.{order-below, order-apart, order-short, order-ready}
-use Rattle.rules.proofs.Stores.{put-same, put-other}
+use Rattle.rules.proofs.Lists.{both-left, both-right}
 use Rattle.rules.proofs.Sorted.{by-deadline}
-use Rattle.rules.proofs.Shares.{granted-left}
-use Rattle.rules.proofs.Settles.{Settles, settles-job, settles-begun}
+use Rattle.rules.proofs.Shares.{settledJob, granted-left}
+use Rattle.rules.proofs.Settles.{Settles, job-here, job-elsewhere, first-below, first-ready, settles-job}
+use Rattle.rules.proofs.Keeps.{settles-start}
 use Rattle.rules.proofs.Soundness.{Sound}
 use Rattle.promises.specs.Runs.{sumTo}
 use Rattle.promises.proofs.Sums.{sum-zero, sum-change}
-use Rattle.promises.proofs.Books.{owes, room}
-use Rattle.promises.proofs.Levels.{LevelFirst, level-rest, level-none, upto-first, order-has}
-use Rattle.promises.proofs.OneJob.{settledJob, over-owes, later-owes, later-room, left-over, due-pays}
+use Rattle.promises.proofs.Books.{owes, room, over-owes, later-owes, later-room}
+use Rattle.promises.proofs.Levels.{LevelFirst, level-rest, level-none, upto-first, order-has, mem-rest}
+use Rattle.promises.proofs.OneJob.{left-over, due-pays}
 
 -- at the tick t: what the tasks owe by d, and what they have room for from the next tick on
 abbrev pub owedBy : Tasks → ℕ → ℕ → Jobs → ℕ
@@ -79,19 +76,17 @@ module _ (ts : Tasks) (js : Jobs) (speed : ℕ) (report : List ℕ) (most : ts .
     next = settleAt ts i u sofar
 
     place : i < ts .count
-    place = ltb-true i (ts .count) (every-first (λ k. ltb k (ts .count)) i o (v .below))
+    place = first-below ts js (ts .count) speed i o sofar v
 
     ready : j .over ≡ false
-    ready = not-true _ (every-first (λ k. not (jobAt ts (sofar .jobs) k .over)) i o (v .waiting))
+    ready = first-ready ts js (ts .count) speed i o sofar v
 
     -- the jobs after it, at its place and elsewhere
     here : jobAt ts (next .jobs) i ≡ settledJob (sofar .left .0) u j
-    unfolding settleAt settledJob
-    here = put-same ts (sofar .jobs) i _ _ (omega (arith, v .runs, place)) (omega (arith, v .marks, place))
+    here = job-here ts i u sofar (omega (arith, v .runs, place)) (omega (arith, v .marks, place))
 
     elsewhere : (k : ℕ) → (k ≡ i → ⊥) → jobAt ts (next .jobs) k ≡ jobAt ts (sofar .jobs) k
-    unfolding settleAt
-    elsewhere k ne = put-other ts (sofar .jobs) i _ _ k ne
+    elsewhere = job-elsewhere ts i u sofar
 
     -- a sum over the jobs changes by this job's part
     change : (f : Job → ℕ) → sumTo (ts .count) (λ k. f (jobAt ts (next .jobs) k)) + f j ≡ sumTo (ts .count) (λ k. f (jobAt ts (sofar .jobs) k)) + f (jobAt ts (next .jobs) i)
@@ -103,13 +98,9 @@ module _ (ts : Tasks) (js : Jobs) (speed : ℕ) (report : List ℕ) (most : ts .
     unfolding Covers settleAt
     covers-rest c more k l unfinished e = go (ℕ-discrete k i)
       where
-        out : (k ≡ i → ⊥) → (k ≡ i) ⊎ List·Memᴰ k o → List·Memᴰ k o
-        out ne (inl z) = absurd (ne z)
-        out ne (inr m) = m
-
         go : Dec (k ≡ i) → List·Memᴰ k o
         go (yes z) = absurd (true≢false (sym (left-over (sofar .left .0) u j (v .right i place) ready more) ∙ (rw (z, here) at unfinished)))
-        go (no ne) = out ne (List·Memᴰ·cases-cons (c (omega arith) k l (rw (elsewhere k ne) at unfinished) e))
+        go (no ne) = mem-rest k i o ne (c (omega arith) k l (rw (elsewhere k ne) at unfinished) e)
 
     -- a job that is due by d pays for what it takes of what is left
     module _ (a : allowed (sofar .left .0) u j ≡ true) (e : due i ≡ true) where
@@ -178,14 +169,6 @@ module _ (ts : Tasks) (js : Jobs) (speed : ℕ) (report : List ℕ) (most : ts .
 
 -- a tick of a state, settled in the order of rule 3
 module _ (s : State) (f : Sound s) (shape : Shaped s) (speed : ℕ) (report : List ℕ) (lawful : allAllowed (s .tasks) report (orderOf s) (atTickStart (s .jobs) speed) ≡ true) (d : ℕ) where
-  begun : Settles (s .tasks) (s .jobs) (s .tasks .count) speed (orderOf s) (atTickStart (s .jobs) speed)
-  unfolding orderOf readyAt
-  begun =
-      let n = s .tasks .count in
-      settles-begun (s .tasks) (s .jobs) n speed (orderOf s) (shape .runs) (shape .marks) (f .tasks-most) (f .run-right)
-      (order-ready (deadlineAt s) (readyAt s) n) (order-below (deadlineAt s) (readyAt s) n)
-      (order-apart (deadlineAt s) (readyAt s) n) (order-short (deadlineAt s) (readyAt s) n)
-
   -- the tasks due by d come first in the order, and it has every ready one of them
   due-first : LevelFirst (due (s .tasks) (s .jobs) speed report (f .tasks-most) (f .period-some) (s .done .0) d) (orderOf s)
   unfolding due deadlineAt
@@ -199,4 +182,4 @@ module _ (s : State) (f : Sound s) (shape : Shaped s) (speed : ℕ) (report : Li
   unfolding Enough settled atTickStart
   settled-pays h =
       settle-pays (s .tasks) (s .jobs) speed report (f .tasks-most) (f .period-some) (s .done .0) d (orderOf s) (atTickStart (s .jobs) speed)
-      begun lawful due-first (λ more. all-covered) h
+      (settles-start s f shape speed) lawful due-first (λ more. all-covered) h

@@ -19,16 +19,17 @@ use Rattle.rules.specs.Choice.{orderBy, deadlineAt, readyAt, orderOf}
 use Rattle.rules.specs.Settlement.{byBullet, remaining, usesUp, allowed, granted, isOver, allAllowed, overEntriesZero, atTickStart, settled, keepsRule4}
 use Rattle.rules.specs.Numbers.{runRight}
 use Rattle.rules.proofs.Lists.{both-left, both-right, getD-upTo, upTo-at}
-use Rattle.rules.proofs.Orders.{every-mono, total-insert, order-in, order-out, order-below, order-short, order-apart, order-ready}
+use Rattle.rules.proofs.Orders.{every-mono, total-insert, order-in, order-out, order-ready}
 use Rattle.rules.proofs.Stores.{withRun}
-use Rattle.rules.proofs.Places.{run-below, over-most}
-use Rattle.rules.proofs.Shares.{granted-right}
-use Rattle.rules.proofs.Settles.{Settles, settles-begun}
+use Rattle.rules.proofs.Places.{run-below, run-most}
+use Rattle.rules.proofs.Shares.{settledJob, granted-right}
+use Rattle.rules.proofs.Settles.{Settles}
+use Rattle.rules.proofs.Keeps.{settles-start}
 use Rattle.rules.proofs.Soundness.{Sound}
 use Rattle.promises.specs.Runs.{sumTo}
 use Rattle.promises.proofs.Sums.{sum-none, sum-last, sum-same}
 use Rattle.promises.proofs.Levels.{order-has}
-use Rattle.promises.proofs.SettledPlaces.{grantAt, served, absent, job-kept, grant-kept, Turn, walk-turn, walk-cut}
+use Rattle.promises.proofs.SettledPlaces.{grantAt, absent, job-kept, grant-kept, Turn, walk-turn, walk-cut}
 
 -- entry u and grant g take the job j to the job k
 pub record Portion (u g : ℕ) (j k : Job) : Type 0 where
@@ -37,14 +38,6 @@ pub record Portion (u g : ℕ) (j k : Job) : Type 0 where
   pub was-over : j .over ≡ true → (g ≡ 0) × (u ≡ 0) × (k .over ≡ true)
   pub no-finish : j .over ≡ false → u ≡ 0 → k .over ≡ eqb (j .run .0 + g) (j .reserve .0)
   pub finish : j .over ≡ false → (u ≡ 0 → ⊥) → (j .run .0 + g ≡ u) × (k .over ≡ true)
-
--- a job whose run count is right has run no more than its reserve
-run-most : (j : Job) → runRight j ≡ true → j .run .0 ≤ j .reserve .0
-run-most j r = go (j .over) refl
-  where
-    go : (b : Bool) → j .over ≡ b → j .run .0 ≤ j .reserve .0
-    go true o = over-most j r o
-    go false o = omega (arith, run-below j r o)
 
 -- a job that is over, with entry 0 and grant 0, stays as it is
 over-portion : (u : ℕ) (j : Job) → runRight j ≡ true → j .over ≡ true → u ≡ 0 → Portion u 0 j j
@@ -84,12 +77,12 @@ module _ (left u : ℕ) (j : Job) where
           (omega (arith, above), refl)
 
   -- both together
-  ready-portion : runRight j ≡ true → j .over ≡ false → allowed left u j ≡ true → Portion u (granted left u j) j (served left u j)
+  ready-portion : runRight j ≡ true → j .over ≡ false → allowed left u j ≡ true → Portion u (granted left u j) j (settledJob left u j)
   unfolding withRun
   ready-portion r o a =
       record {
         run-is = refl;
-        within = run-most (served left u j) (granted-right left u j r o a);
+        within = run-most (settledJob left u j) (granted-right left u j r o a);
         was-over = λ e. absurd (false≢true (sym o ∙ e));
         no-finish = λ e. over-at-reserve (run-below j r o);
         finish = λ e. over-at-entry a;
@@ -151,12 +144,7 @@ module _ (s : State) (f : Sound s) (shape : Shaped s) (speed : ℕ) (report : Li
   all-allowed = both-right (overEntriesZero (s .tasks) (s .jobs) report) (allAllowed (s .tasks) report (orderOf s) start) lawful
 
   begun : Settles (s .tasks) (s .jobs) (s .tasks .count) speed (orderOf s) start
-  unfolding orderOf readyAt
-  begun =
-      let n = s .tasks .count in
-      settles-begun (s .tasks) (s .jobs) n speed (orderOf s) (shape .runs) (shape .marks) (f .tasks-most) (f .run-right)
-      (order-ready (deadlineAt s) (readyAt s) n) (order-below (deadlineAt s) (readyAt s) n)
-      (order-apart (deadlineAt s) (readyAt s) n) (order-short (deadlineAt s) (readyAt s) n)
+  begun = settles-start s f shape speed
 
   no-grant-yet : (i : ℕ) → i < s .tasks .count → grantAt start i ≡ 0
   unfolding atTickStart

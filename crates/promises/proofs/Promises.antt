@@ -28,7 +28,7 @@ any-tick-on-time = any-tick
 
 -- Demand 3: exactly the cycles, and never more than the reserve.
 pub exact-cycles : ExactlyTheCycles
-exact-cycles = exactly-the-cycles Kept (λ s k. k .facts) (λ s k. k .shape) kept-next kept-over kept-start
+exact-cycles = exactly-the-cycles Kept (λ s k. k .base .facts) (λ s k. k .base .shape) kept-next kept-over kept-start
 
 -- Demand 3: a table turned away for load is one that no order of running could serve.
 pub turned-away : TurnedAwayForLoad

@@ -1,6 +1,6 @@
 -- The books of one job over a tick: it spends a share of the room, and a release makes room for all that the new job owes. By whether it is due by d, and released.
 use mathlib.Core.Path.{_≡_, refl, sym, ap, _∙_}
-use mathlib.Core.Bool.{Bool, true, false, cond, not, _&&_}
+use mathlib.Core.Bool.{Bool, true, false, cond, not}
 use Prim.Native.Nat.{ℕ, _+_, _-_, _*_, _/_, _%_, _≤_, _<_}
 use native.Mathlib.Nat.{mul-le-mul-left, mul-zero, mul-pos, add-sub-cancel-left}
 use native.Mathlib.Omega.{arith}
@@ -14,43 +14,19 @@ use Rattle.rules.proofs.Stores.{withRun}
 use Rattle.rules.proofs.Places.{run-below}
 use Rattle.rules.proofs.Deadlines.{deadline-next, due-stays, due-moves}
 use Rattle.rules.proofs.Releases.{afterRelease}
-use Rattle.promises.proofs.Books.{owes, room}
+use Rattle.promises.proofs.Books.{owes, room, over-owes, later-owes, due-owes, later-room, due-room}
 
--- both sides, by whether the job is due by d and whether it is over
+-- both sides over a tick
 module _ (great t d : ℕ) (j : Job) where
-  owes-later : leb (deadline t j) d ≡ false → owes great t d j ≡ 0
-  unfolding owes
-  owes-later e = rw e
-
-  owes-rest : leb (deadline t j) d ≡ true → j .over ≡ false → owes great t d j ≡ remaining j * great
-  unfolding owes
-  owes-rest e o = rw (e, o)
-
-  over-owes : j .over ≡ true → owes great t d j ≡ 0
-  unfolding owes
-  over-owes o = go (leb (deadline t j) d)
-    where
-      go : (b : Bool) → _≡_ {A = ℕ} (cond (b && not (j .over)) (remaining j * great) 0) 0
-      go true = rw o
-      go false = refl
-
   -- a job that owes something is not over
   pub owing-open : 0 < owes great t d j → j .over ≡ false
   owing-open h = go (j .over) refl
     where
       go : (b : Bool) → j .over ≡ b → b ≡ false
-      go true o = absurd (omega (arith, over-owes o))
+      go true o = absurd (omega (arith, over-owes great t d j o))
       go false o = refl
 
   module _ (from : ℕ) where
-    room-later : leb (deadline t j) d ≡ false → room great t from d j ≡ 0
-    unfolding room
-    room-later e = rw e
-
-    room-due : leb (deadline t j) d ≡ true → room great t from d j ≡ useOf j * (great / j .period .0) * (deadline t j - from)
-    unfolding room
-    room-due e = rw e
-
     -- no room is left from the deadline on, nor has a job room that is not due by d
     pub room-none : (leb (deadline t j) d ≡ true → deadline t j ≤ from) → room great t from d j ≡ 0
     room-none h = go (leb (deadline t j) d) refl
@@ -58,8 +34,8 @@ module _ (great t d : ℕ) (j : Job) where
         go : (b : Bool) → leb (deadline t j) d ≡ b → room great t from d j ≡ 0
         go true e =
             let none : deadline t j - from ≡ 0 = omega (arith, h e) in
-            room-due e ∙ rw (none, mul-zero)
-        go false e = room-later e
+            due-room great t d j from e ∙ rw (none, mul-zero)
+        go false e = later-room great t d j from e
 
   -- a tick spends its share of the room
   pub tick-spends : room great t t d j ≤ room great t (t + 1) d j + useOf j * (great / j .period .0)
@@ -68,8 +44,8 @@ module _ (great t d : ℕ) (j : Job) where
       go : (b : Bool) → leb (deadline t j) d ≡ b → room great t t d j ≤ room great t (t + 1) d j + useOf j * (great / j .period .0)
       go true e =
           let one-more : deadline t j - t ≤ deadline t j - (t + 1) + 1 = omega arith in
-          omega (arith, room-due t e, room-due (t + 1) e, mul-le-mul-left (useOf j * (great / j .period .0)) one-more)
-      go false e = omega (arith, room-later t e)
+          omega (arith, due-room great t d j t e, due-room great t d j (t + 1) e, mul-le-mul-left (useOf j * (great / j .period .0)) one-more)
+      go false e = omega (arith, later-room great t d j t e)
 
   -- a job that has not run has room for all that it owes, where its deadline is a whole period away
   module _ (whole : great / j .period .0 * j .period .0 ≡ great) (due : deadline t j ≡ t + j .period .0) (none : j .run .0 ≡ 0) (o : j .over ≡ false) where
@@ -86,9 +62,9 @@ module _ (great t d : ℕ) (j : Job) where
       where
         go : (b : Bool) → leb (deadline t j) d ≡ b → owes great t d j ≡ room great t t d j
         go true e =
-            rw (owes-rest e o, room-due t e, rest-is-all, use-is-all, due, add-sub-cancel-left t (j .period .0))
+            rw (due-owes great t d j e o, due-room great t d j t e, rest-is-all, use-is-all, due, add-sub-cancel-left t (j .period .0))
             (omega (arith, ap (λ x. j .reserve .0 * x) whole))
-        go false e = owes-later e ∙ sym (room-later t e)
+        go false e = later-owes great t d j e ∙ sym (later-room great t d j t e)
 
 -- the deadline at the next tick: it stays, or where the task is released then it is a period later
 module _ (t : ℕ) (j : Job) (some : 1 ≤ j .period .0) where
@@ -113,7 +89,7 @@ module _ (t : ℕ) (j : Job) (some : 1 ≤ j .period .0) where
       go false o =
           let is-due : leb (deadline t j) (t + 1) ≡ true = le-leb (deadline t j) (t + 1) (omega (arith, due-then e)) in
           let left : 0 < remaining j = omega (arith, run-below j right o) in
-          absurd (omega (arith, owes-rest great t (t + 1) j is-due o, mul-pos left pos))
+          absurd (omega (arith, due-owes great t (t + 1) j is-due o, mul-pos left pos))
 
 -- Over the releases at the next tick the books stay in order: a job that is not released has the same on both sides; one that is had no room left, and
 -- the new one has room for all that it owes.

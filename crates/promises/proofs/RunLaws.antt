@@ -2,7 +2,6 @@
 use mathlib.Core.Path.{_≡_, refl, sym, ap, _∙_}
 use mathlib.Core.Bool.{Bool, true, false, cond}
 use mathlib.Core.List.{List, [], _∷_}
-use Prim.Native.Nat.{ℕ}
 use lib.Dec.{eqb}
 use lib.ListN.{length, getD}
 use borrow.Author.Tests.{eqb-true, eqb-false, lt-leb}
@@ -17,7 +16,7 @@ use Rattle.rules.specs.Choice.{speedPlace, speedOf}
 use Rattle.rules.specs.Settlement.{settled}
 use Rattle.rules.specs.Counting.{nextOf}
 use Rattle.rules.specs.Numbers.{nowNumber, tickNumber, allDone}
-use Rattle.rules.specs.Calls.{nowOf, tickOf, grantsOf}
+use Rattle.rules.specs.Calls.{tickOf}
 use Rattle.rules.proofs.CallRows.{Accepted, accepted, now-0, now-accepted, tick-refused, tick-accepted, grants-written}
 use Rattle.rules.proofs.Soundness.{facts-sound}
 use Rattle.rules.proofs.Loads.{some-carries}

@@ -1,17 +1,14 @@
 -- Settling along an order, place by place: a job of it changes at its turn alone, a place that is not in it never does. By induction on the order.
 use mathlib.Core.Path.{_≡_, refl, sym, ap, _∙_}
 use mathlib.Core.Bool.{Bool, true, false, cond, not, _&&_}
-use mathlib.Core.Logic.{_⊎_, inl, inr}
-use mathlib.Core.List.{List, [], _∷_, List·Memᴰ, List·Memᴰ·not-nil, List·Memᴰ·cases-cons}
+use mathlib.Core.List.{List, [], _∷_, List·Memᴰ, List·Memᴰ·not-nil}
 use Prim.Native.Nat.{ℕ, _+_, _≤_, _<_}
 use native.Mathlib.Decide.{ℕ-discrete}
 use native.Mathlib.Omega.{arith}
-use lib.Dec.{eqb, ltb}
-use lib.ListN.{length, getD}
-use lib.Seq.{getD-set-same, getD-set-other}
-use borrow.Author.Tests.{eqb-false, ltb-true, not-true}
+use lib.Dec.{eqb}
+use lib.ListN.{getD}
+use borrow.Author.Tests.{eqb-false, not-true}
 use Rattle.units.specs.Units.{cycles}
-use Rattle.units.specs.declared.Cycles.{Cycles}
 use Rattle.rules.specs.declared.Tasks.{Tasks}
 use Rattle.rules.specs.declared.Jobs.{Jobs}
 use Rattle.rules.specs.declared.Job.{Job}
@@ -22,17 +19,14 @@ use Rattle.rules.specs.State.{jobAt}
 use Rattle.rules.specs.Settlement.{byBullet, usesUp, allowed, granted, isCut, isOver, settleAt, settleAll, allAllowed}
 use Rattle.rules.specs.Numbers.{runRight}
 use Rattle.rules.proofs.Lists.{both-left, both-right, every-first, every-rest}
-use Rattle.rules.proofs.Orders.{apart}
-use Rattle.rules.proofs.Stores.{withRun, put-same, put-other}
-use Rattle.rules.proofs.Settles.{Settles, settles-job}
+use Rattle.rules.proofs.Stores.{withRun}
+use Rattle.rules.proofs.Shares.{settledJob}
+use Rattle.rules.proofs.Settles.{Settles, job-here, job-elsewhere, grant-here, grant-elsewhere, first-below, first-ready, first-once, settles-job}
+use Rattle.promises.proofs.Levels.{mem-rest}
 
 -- what is granted to the task at a place so far
 abbrev pub grantAt : Settling → ℕ → ℕ
 grantAt sofar i = getD (sofar .grants) i (cycles 0) .0
-
--- a ready job after its turn, by what is left and its entry
-abbrev pub served : ℕ → ℕ → Job → Job
-served left u j = withRun j (j .run .0 + granted left u j) (isOver left u j)
 
 -- a job is cut where it is over with entry 0
 cut-over : (left u : ℕ) (j : Job) → isCut left u j ≡ (eqb u 0 && isOver left u j)
@@ -44,24 +38,6 @@ cut-over left u j = go (eqb left 0) (eqb u 0)
     go true false = refl
     go false true = refl
     go false false = refl
-
--- the turn of place i: the job and the grant there, and elsewhere
-module _ (ts : Tasks) (i u : ℕ) (sofar : Settling) where
-  job-here : i < length (sofar .jobs .run) → i < length (sofar .jobs .over) → jobAt ts (settleAt ts i u sofar .jobs) i ≡ served (sofar .left .0) u (jobAt ts (sofar .jobs) i)
-  unfolding settleAt
-  job-here r m = put-same ts (sofar .jobs) i _ _ r m
-
-  job-elsewhere : (k : ℕ) → (k ≡ i → ⊥) → jobAt ts (settleAt ts i u sofar .jobs) k ≡ jobAt ts (sofar .jobs) k
-  unfolding settleAt
-  job-elsewhere k ne = put-other ts (sofar .jobs) i _ _ k ne
-
-  grant-here : i < length (sofar .grants) → grantAt (settleAt ts i u sofar) i ≡ granted (sofar .left .0) u (jobAt ts (sofar .jobs) i)
-  unfolding settleAt
-  grant-here l = ap (λ (g : Cycles). g .0) (getD-set-same (sofar .grants) i _ (cycles 0) l)
-
-  grant-elsewhere : (k : ℕ) → (k ≡ i → ⊥) → grantAt (settleAt ts i u sofar) k ≡ grantAt sofar k
-  unfolding settleAt
-  grant-elsewhere k ne = ap (λ (g : Cycles). g .0) (getD-set-other (sofar .grants) i k _ (cycles 0) ne)
 
 -- a place is not in an order
 abbrev pub absent : ℕ → List ℕ → Bool
@@ -92,7 +68,7 @@ pub record Turn (u g : ℕ) (j k : Job) : Type 0 where
   pub right : runRight j ≡ true
   pub ready : j .over ≡ false
   pub may : allowed left u j ≡ true
-  pub job-is : k ≡ served left u j
+  pub job-is : k ≡ settledJob left u j
   pub grant-is : g ≡ granted left u j
 
 -- an order that is still to be settled: its first job and the rest
@@ -117,32 +93,31 @@ module _ (ts : Tasks) (js : Jobs) (n speed : ℕ) (most : n ≤ mostTasks) (repo
   rest-settles : Settles ts js n speed o (settleAt ts i entry sofar)
   rest-settles = settles-job ts js n speed i entry o sofar most v first-allowed
 
-  first-below : i < n
-  first-below = ltb-true i n (every-first (λ k. ltb k n) i o (v .below))
-
   -- the rest leaves the first as it is after its turn
-  first-once : absent i o ≡ true
-  unfolding apart
-  first-once = both-left (absent i o) (apart o) (v .different)
+  below : i < n
+  below = first-below ts js n speed i o sofar v
 
-  first-job : jobAt ts (end .jobs) i ≡ served (sofar .left .0) entry first
+  once : absent i o ≡ true
+  once = first-once ts js n speed i o sofar v
+
+  first-job : jobAt ts (end .jobs) i ≡ settledJob (sofar .left .0) entry first
   unfolding settleAll
   first-job =
-      job-kept ts report i o (settleAt ts i entry sofar) first-once
-      ∙ job-here ts i entry sofar (omega (arith, v .runs, first-below)) (omega (arith, v .marks, first-below))
+      job-kept ts report i o (settleAt ts i entry sofar) once
+      ∙ job-here ts i entry sofar (omega (arith, v .runs, below)) (omega (arith, v .marks, below))
 
   first-grant : grantAt end i ≡ granted (sofar .left .0) entry first
   unfolding settleAll
   first-grant =
-      grant-kept ts report i o (settleAt ts i entry sofar) first-once
-      ∙ grant-here ts i entry sofar (omega (arith, v .grants, first-below))
+      grant-kept ts report i o (settleAt ts i entry sofar) once
+      ∙ grant-here ts i entry sofar (omega (arith, v .grants, below))
 
   first-turn : Turn entry (grantAt end i) first (jobAt ts (end .jobs) i)
   first-turn =
       record {
         left = sofar .left .0;
-        right = v .right i first-below;
-        ready = not-true _ (every-first (λ k. not (jobAt ts (sofar .jobs) k .over)) i o (v .waiting));
+        right = v .right i below;
+        ready = first-ready ts js n speed i o sofar v;
         may = first-allowed;
         job-is = first-job;
         grant-is = first-grant;
@@ -154,14 +129,6 @@ module _ (ts : Tasks) (js : Jobs) (n speed : ℕ) (most : n ≤ mostTasks) (repo
   first-cut =
       ap (λ (b : Bool). sofar .cut + cond b 1 0)
       (cut-over (sofar .left .0) entry first ∙ ap (λ (k : Job). eqb entry 0 && k .over) (sym first-job))
-
--- an entry of a list that is not its first is one of the rest
-mem-rest : (k i : ℕ) (o : List ℕ) → (k ≡ i → ⊥) → List·Memᴰ k (i ∷ o) → List·Memᴰ k o
-mem-rest k i o ne m = go (List·Memᴰ·cases-cons m)
-  where
-    go : (k ≡ i) ⊎ List·Memᴰ k o → List·Memᴰ k o
-    go (inl e) = absurd (ne e)
-    go (inr t) = t
 
 module _ (ts : Tasks) (js : Jobs) (n speed : ℕ) (most : n ≤ mostTasks) (report : List ℕ) where
   -- each job of the order has its turn, and is as it was until then

@@ -15,9 +15,8 @@ use Rattle.rules.specs.Limits.{mostTasks, mostSpeeds, mostTicks}
 use Rattle.rules.specs.Choice.{speedPlace, speedOf}
 use Rattle.rules.specs.Counting.{nextOf}
 use Rattle.rules.specs.Numbers.{nowNumber, tickNumber}
-use Rattle.rules.specs.Calls.{tasksFrom, ladderFrom, freshJobs, freshTally, freshState, startOf, nowOf, tickOf, energyOf}
+use Rattle.rules.specs.Calls.{tasksFrom, ladderFrom, freshJobs, freshTally, freshState, nowOf, tickOf, energyOf}
 use Rattle.rules.proofs.Lists.{length-upTo}
-use Rattle.rules.proofs.Tables.{passes}
 use Rattle.rules.proofs.Soundness.{Sound, facts-sound}
 use Rattle.rules.proofs.Loads.{place-below, speed-of-most, some-carries}
 use Rattle.rules.proofs.Fresh.{fresh-facts}
@@ -25,6 +24,7 @@ use Rattle.rules.proofs.CallRows.{all-done, not-all-done, now-10, now-0, energy
 use Rattle.rules.proofs.Keeps.{next-sound, next-shaped, entries-allowed}
 use Rattle.promises.specs.Runs.{Table, Call, Step, started, ticked, after, stepOf, steps}
 use Rattle.promises.specs.StaysSound.{EveryRunStaysSound}
+use Rattle.promises.proofs.StartLaws.{started-is, passed, start-done}
 use Rattle.promises.proofs.RunLaws.{Taken, next, facts, by-steps, keeps-all}
 
 -- a sound state, fact by fact, whose arrays have all their places
@@ -57,20 +57,11 @@ fresh-shaped great ps cs ss vs =
       counts = length-upTo mostSpeeds _;
     }
 
--- what start accepts is so, and no tick is done in it
-module _ (table : Table) (e : started table .number ≡ 0) where
-  pub sound-start : SoundAndShaped (started table .state)
-  unfolding started startOf
-  sound-start =
-      rw e
-      (record {
-        facts = fresh-facts _ _ _ _ (passes (table .periods) (table .reserves) (table .speeds) (table .volts) e);
-        shape = fresh-shaped _ _ _ _ _;
-      })
-
-  start-done : started table .state .done .0 ≡ 0
-  unfolding started startOf freshState
-  start-done = rw e
+-- what start accepts is so
+pub sound-start : (table : Table) → started table .number ≡ 0 → SoundAndShaped (started table .state)
+sound-start table e =
+    rw (started-is table e)
+    (record { facts = fresh-facts _ _ _ _ (passed table e); shape = fresh-shaped _ _ _ _ _ })
 
 -- each accepted tick adds 1 to t
 one-more : (s : State) (call : Call) (end : State) (xs : List Step) → SoundAndShaped s → Taken s call → end .done .0 ≡ next s call .done .0 + length xs → end .done .0 ≡ s .done .0 + length (stepOf s call ∷ xs)

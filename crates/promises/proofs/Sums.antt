@@ -1,5 +1,5 @@
 -- The laws of `sumTo`: of equal, added, zero and constant terms, of terms that differ at one place, of sums in two directions and window by window. By induction on the places, the last one apart.
-use mathlib.Core.Path.{_≡_, refl, sym, _∙_}
+use mathlib.Core.Path.{_≡_, refl, sym, ap, _∙_}
 use Prim.Native.Nat.{ℕ, zero, suc, _+_, _*_, _≤_, _<_}
 use native.Mathlib.Nat.{suc-mul, zero-mul, add-zero, add-suc}
 use native.Mathlib.Decide.{ℕ-discrete, decLt}
@@ -78,6 +78,15 @@ module _ (f g : ℕ → ℕ) where
       go (no q) r =
           let last : f n ≡ g n = same n (omega arith) (λ (z : n ≡ k). q (sym z)) in
           omega (arith, sum-last f n, sum-last g n, r (omega arith))
+
+-- terms that are 0 from a place on add nothing
+pub sum-short : (f : ℕ → ℕ) (n m : ℕ) → n ≤ m → ((i : ℕ) → n ≤ i → i < m → f i ≡ 0) → sumTo m f ≡ sumTo n f
+sum-short f n zero l h = ap (λ k. sumTo k f) (omega arith)
+sum-short f n (suc m) l h = go (decLt m n) (λ (k : n ≤ m). sum-short f n m k (λ i a b. h i a (omega arith)))
+  where
+    go : Dec (m < n) → (n ≤ m → sumTo m f ≡ sumTo n f) → sumTo (suc m) f ≡ sumTo n f
+    go (yes k) r = ap (λ k. sumTo k f) (omega arith)
+    go (no k) r = omega (arith, sum-last f m, r (omega arith), h m (omega arith) (omega arith))
 
 -- the sums of rows and the sums of columns come to the same
 pub sum-swap : (f : ℕ → ℕ → ℕ) (n m : ℕ) → sumTo n (λ i. sumTo m (λ k. f i k)) ≡ sumTo m (λ k. sumTo n (λ i. f i k))

@@ -1,8 +1,8 @@
 -- What a run adds to each speed's count and to idle: a tick's settlement shares its speed out to grants and to what is left. By the accepted ticks.
 use mathlib.Core.Path.{_≡_, refl, sym, ap, _∙_}
-use mathlib.Core.Bool.{true, cond}
+use mathlib.Core.Bool.{true, cond, not}
 use mathlib.Core.List.{List, [], _∷_}
-use Prim.Native.Nat.{ℕ, zero, suc, _+_, _-_, _≤_, _<_}
+use Prim.Native.Nat.{ℕ, suc, _+_, _-_, _≤_, _<_}
 use native.Mathlib.Decide.{ℕ-discrete, decLt}
 use native.Mathlib.Omega.{arith}
 use lib.Dec.{eqb, ltb}
@@ -11,25 +11,24 @@ use lib.Seq.{getD-set-same, getD-set-other}
 use borrow.Author.Tests.{eq-eqb, ne-eqb, ltb-true}
 use Rattle.units.specs.Units.{cycles}
 use Rattle.units.specs.declared.Cycles.{Cycles}
-use Rattle.rules.specs.declared.Tasks.{Tasks}
-use Rattle.rules.specs.declared.Settling.{Settling}
 use Rattle.rules.specs.declared.State.{State}
 use Rattle.rules.specs.Words.{upTo, total, every}
 use Rattle.rules.specs.Limits.{mostTasks}
 use Rattle.rules.specs.State.{countAt, speedAt}
 use Rattle.rules.specs.Choice.{deadlineAt, readyAt, orderOf, speedPlace, speedOf}
-use Rattle.rules.specs.Settlement.{settleAt, settleAll, atTickStart, settled}
+use Rattle.rules.specs.Settlement.{atTickStart, settled}
 use Rattle.rules.specs.Counting.{counted, nextOf}
-use Rattle.rules.proofs.Lists.{getD-upTo, every-first, every-rest}
+use Rattle.rules.proofs.Lists.{getD-upTo}
 use Rattle.rules.proofs.Totals.{total-places}
-use Rattle.rules.proofs.Orders.{order-below}
+use Rattle.rules.proofs.Orders.{every-mono, order-below}
 use Rattle.rules.proofs.Settles.{Settles, grantsSum}
 use Rattle.rules.proofs.Keeps.{settles, entries-allowed}
 use Rattle.rules.proofs.Loads.{place-below, speed-of-at, speed-order}
 use Rattle.promises.specs.Runs.{Call, Step, Each, stepOf, steps, after, granted, sumTo}
 use Rattle.promises.specs.Counts.{grantedAt}
 use Rattle.promises.proofs.RunLaws.{outcome, next, Taken, step-speed, step-grants, by-steps}
-use Rattle.promises.proofs.Sums.{sum-last}
+use Rattle.promises.proofs.Sums.{sum-short}
+use Rattle.promises.proofs.SettledPlaces.{absent, grant-kept}
 use Rattle.promises.proofs.SoundRuns.{SoundAndShaped, sound-next}
 
 -- a list of cycles summed over its places
@@ -38,25 +37,12 @@ unfolding total upTo
 cycles-places [] = refl
 cycles-places (x ∷ l) = ap (λ y. x .0 + y) (cycles-places l ∙ sym (total-places (λ i. getD (x ∷ l) i (cycles 0) .0) suc (length l)))
 
--- terms that are 0 from a place on add nothing
-sum-short : (f : ℕ → ℕ) (n m : ℕ) → n ≤ m → ((i : ℕ) → n ≤ i → i < m → f i ≡ 0) → sumTo m f ≡ sumTo n f
-sum-short f n zero l h = ap (λ k. sumTo k f) (omega arith)
-sum-short f n (suc m) l h = go (decLt m n) (λ (k : n ≤ m). sum-short f n m k (λ i a b. h i a (omega arith)))
+-- a place past those of an order is not in it
+above-absent : (n k : ℕ) → n ≤ k → (o : List ℕ) → every (λ i. ltb i n) o ≡ true → absent k o ≡ true
+above-absent n k l = every-mono (λ i. ltb i n) (λ i. not (eqb i k)) differs
   where
-    go : Dec (m < n) → (n ≤ m → sumTo m f ≡ sumTo n f) → sumTo (suc m) f ≡ sumTo n f
-    go (yes k) r = ap (λ k. sumTo k f) (omega arith)
-    go (no k) r = omega (arith, sum-last f m, r (omega arith), h m (omega arith) (omega arith))
-
--- a place past those of the order has no part in its settlement
-past-ungranted : (ts : Tasks) (report : List ℕ) (n k : ℕ) → n ≤ k → (o : List ℕ) → every (λ i. ltb i n) o ≡ true → (sofar : Settling) → getD (settleAll ts report o sofar .grants) k (cycles 0) ≡ getD (sofar .grants) k (cycles 0)
-unfolding settleAll settleAt
-past-ungranted ts report n k l [] below sofar = refl
-past-ungranted ts report n k l (i ∷ o) below sofar =
-    past-ungranted ts report n k l o (every-rest (λ x. ltb x n) i o below) (settleAt ts i (getD report i 0) sofar)
-    ∙ getD-set-other (sofar .grants) i k _ (cycles 0) differs
-  where
-    differs : k ≡ i → ⊥
-    differs e = omega (arith, ltb-true i n (every-first (λ x. ltb x n) i o below))
+    differs : (i : ℕ) → ltb i n ≡ true → not (eqb i k) ≡ true
+    differs i b = ap not (ne-eqb i k (λ (e : i ≡ k). absurd (omega (arith, ltb-true i n b))))
 
 -- one accepted tick
 module _ (s : State) (call : Call) (kept : SoundAndShaped s) (e : Taken s call) where
@@ -69,11 +55,9 @@ module _ (s : State) (call : Call) (kept : SoundAndShaped s) (e : Taken s call) 
   none-past : (k : ℕ) → s .tasks .count ≤ k → k < mostTasks → getD (outcome s call .grants) k (cycles 0) .0 ≡ 0
   unfolding settled orderOf atTickStart
   none-past k l m =
-      let n = s .tasks .count in
-      let below = order-below (deadlineAt s) (readyAt s) n in
-      ap (λ (g : Cycles). g .0)
-      (past-ungranted (s .tasks) (call .report) n k l (orderOf s) below (atTickStart (s .jobs) (speedOf s))
-      ∙ getD-upTo mostTasks (λ i. cycles 0) k (cycles 0) m)
+      let start = atTickStart (s .jobs) (speedOf s) in
+      grant-kept (s .tasks) (call .report) k (orderOf s) start (above-absent (s .tasks .count) k l (orderOf s) (order-below (deadlineAt s) (readyAt s) (s .tasks .count)))
+      ∙ ap (λ (g : Cycles). g .0) (getD-upTo mostTasks (λ i. cycles 0) k (cycles 0) m)
 
   -- so the step's grants come to what its settlement grants,
   granted-is : granted (stepOf s call) ≡ grantsSum (outcome s call)

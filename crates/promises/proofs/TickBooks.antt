@@ -1,32 +1,27 @@
 -- A tick whose speed carries the load wherever a job is ready keeps a state covered and releases no job late: the books of one job, summed over the tasks.
-use mathlib.Core.Path.{_≡_, refl, ap, sym, subst, _∙_}
+use mathlib.Core.Path.{_≡_, refl, _∙_}
 use mathlib.Core.Bool.{Bool, true, false, cond}
 use mathlib.Core.List.{List, []}
-use Prim.Native.Nat.{ℕ, zero, suc, _+_, _*_, _/_, _%_, _≤_, _<_, _∣_}
-use native.Mathlib.Nat.{div-mul-cancel}
+use Prim.Native.Nat.{ℕ, _+_, _*_, _/_, _%_, _≤_, _<_}
 use native.Mathlib.Decide.{decLt}
 use native.Mathlib.Omega.{arith}
 use lib.Dec.{eqb}
-use lib.ListN.{length, getD}
 use borrow.Author.Tests.{leb-true}
-use Rattle.divisors.proofs.DivisorLaws.{all-each, all-pos}
 use Rattle.rules.specs.declared.Jobs.{Jobs}
 use Rattle.rules.specs.declared.Job.{Job}
 use Rattle.rules.specs.declared.Releasing.{Releasing}
 use Rattle.rules.specs.declared.State.{State}
-use Rattle.rules.specs.Words.{upTo, total}
-use Rattle.rules.specs.State.{Shaped, periodAt, jobAt, jobsOf, periodsOf}
+use Rattle.rules.specs.State.{Shaped, periodAt, jobAt, jobsOf}
 use Rattle.rules.specs.Load.{deadline, useOf, load}
 use Rattle.rules.specs.Choice.{readyAt, orderOf, loadOf}
 use Rattle.rules.specs.Settlement.{allAllowed, atTickStart, settled}
 use Rattle.rules.specs.Counting.{counted, nextOf}
-use Rattle.rules.specs.Admission.{greatOf}
-use Rattle.rules.proofs.Lists.{getD-upTo}
 use Rattle.rules.proofs.Totals.{total-places}
-use Rattle.rules.proofs.Soundness.{Sound, length-periods}
+use Rattle.rules.proofs.Soundness.{Sound}
+use Rattle.rules.proofs.GreatLaws.{great-whole, great-some}
 use Rattle.rules.proofs.Settles.{Settles}
-use Rattle.rules.proofs.Releases.{afterRelease, releases-at, lates, releases-late-is}
-use Rattle.rules.proofs.Keeps.{settles}
+use Rattle.rules.proofs.Releases.{afterRelease, lates, releases-late-is}
+use Rattle.rules.proofs.Keeps.{settles, job-after}
 use Rattle.promises.specs.Runs.{sumTo}
 use Rattle.promises.specs.NeverLate.{OverAtRelease, owedAt, roomAt, Covered}
 use Rattle.promises.proofs.Sums.{sum-zero, zero-sum, sum-same, sum-mono, sum-add, sum-below}
@@ -67,47 +62,20 @@ module _ (s : State) where
   unfolding Covered
   is-covered h d = omega (arith, h d, owed-sum d, room-sum d)
 
--- H is not 0, and each period divides it
-module _ (s : State) (f : Sound s) where
-  period-listed : (i : ℕ) → i < s .tasks .count → getD (periodsOf (s .tasks)) i 0 ≡ periodAt (s .tasks) i
-  unfolding periodsOf
-  period-listed i h = getD-upTo (s .tasks .count) (periodAt (s .tasks)) i 0 h
+-- the period of a job is that of its task, whatever it has run
+module _ (s : State) (f : Sound s) (js : Jobs) (i : ℕ) (h : i < s .tasks .count) where
+  period-pos : 1 ≤ jobAt (s .tasks) js i .period .0
+  unfolding jobAt periodAt
+  period-pos = f .period-some i h
 
-  great-some : 1 ≤ s .tasks .great .0
-  unfolding greatOf
-  great-some = rw (f .great-is) (all-pos (periodsOf (s .tasks)) some)
-    where
-      some : (k : ℕ) → k < length (periodsOf (s .tasks)) → 1 ≤ getD (periodsOf (s .tasks)) k 0
-      some k l =
-          let h : k < s .tasks .count = rw (length-periods s) at l in
-          rw (period-listed k h) (f .period-some k h)
-
-  divides-great : (i : ℕ) → i < s .tasks .count → periodAt (s .tasks) i ∣ s .tasks .great .0
-  unfolding greatOf
-  divides-great i h =
-      subst (λ (x : ℕ). periodAt (s .tasks) i ∣ x) (sym (f .great-is))
-      (rw (period-listed i h) at (all-each (periodsOf (s .tasks)) i (rw (length-periods s) h)))
-
-  -- so it is with the period of a job, whatever it has run
-  module _ (js : Jobs) (i : ℕ) (h : i < s .tasks .count) where
-    period-pos : 1 ≤ jobAt (s .tasks) js i .period .0
-    unfolding jobAt periodAt
-    period-pos = f .period-some i h
-
-    pub great-whole : s .tasks .great .0 / jobAt (s .tasks) js i .period .0 * jobAt (s .tasks) js i .period .0 ≡ s .tasks .great .0
-    unfolding jobAt periodAt
-    great-whole = div-mul-cancel (periodAt (s .tasks) i) (divides-great i h)
-
--- a sum over the values of a function is one over its places
-total-sum : {A : Type 0} (f : A → ℕ) (g : ℕ → A) (n : ℕ) → total f (upTo n g) ≡ sumTo n (λ i. f (g i))
-unfolding total upTo
-total-sum f g zero = refl
-total-sum f g (suc n) = ap (λ x. f (g 0) + x) (total-sum f (λ i. g (suc i)) n ∙ sym (total-places (λ i. f (g i)) suc n))
+  pub job-whole : s .tasks .great .0 / jobAt (s .tasks) js i .period .0 * jobAt (s .tasks) js i .period .0 ≡ s .tasks .great .0
+  unfolding jobAt periodAt
+  job-whole = great-whole s f i h
 
 -- the load is the sum of what one tick spends
 load-sum : (s : State) → loadOf s ≡ sumTo (s .tasks .count) (spends s)
 unfolding loadOf load jobsOf
-load-sum s = total-sum (λ (j : Job). useOf j * (s .tasks .great .0 / j .period .0)) (jobAt (s .tasks) (s .jobs)) (s .tasks .count)
+load-sum s = total-places (λ (j : Job). useOf j * (s .tasks .great .0 / j .period .0)) (jobAt (s .tasks) (s .jobs)) (s .tasks .count)
 
 rooms-spent : (s : State) (d : ℕ) → allRooms s (s .jobs) (s .done .0) d ≤ allRooms s (s .jobs) (s .done .0 + 1) d + loadOf s
 rooms-spent s d =
@@ -187,10 +155,8 @@ module _ (s : State) (f : Sound s) (shape : Shaped s) (covered : Covered s) (spe
     -- and after the releases the books are in order again
     job-then : (i : ℕ) → i < s .tasks .count → jobAt (s .tasks) (later s speed report place .jobs) i
         ≡ afterRelease (s .done .0 + 1) (jobAt (s .tasks) (ran s speed report) i .period .0) (jobAt (s .tasks) (ran s speed report) i)
-    unfolding nextOf jobAt periodAt
-    job-then i h =
-        releases-at (s .tasks) (s .done .0 + 1) _ (s .tasks .count) i
-        (omega (arith, done-so .runs, f .tasks-most)) (omega (arith, done-so .marks, f .tasks-most)) h
+    unfolding jobAt periodAt
+    job-then i h = job-after s f shape speed report lawful place i h
 
     renews-then : (d i : ℕ) → i < s .tasks .count
         → owing (later s speed report place) (later s speed report place .jobs) d i + rooms s (ran s speed report) (s .done .0 + 1) d i
@@ -199,7 +165,7 @@ module _ (s : State) (f : Sound s) (shape : Shaped s) (covered : Covered s) (spe
     renews-then d i h =
         rw (job-then i h)
         (release-renews (s .tasks .great .0) (s .done .0) d (jobAt (s .tasks) (ran s speed report) i)
-        (period-pos s f (ran s speed report) i h) (great-whole s f (ran s speed report) i h))
+        (period-pos s f (ran s speed report) i h) (job-whole s f (ran s speed report) i h))
 
     pub covered-then : Covered (later s speed report place)
     unfolding nextOf

@@ -29,11 +29,11 @@ pub record Ahead (reserve period : ℕ) (over : Bool) (run togo : ℕ) (grants e
   pub later : (job : ℕ) → Served reserve period job (drop togo grants) (drop togo entries)
 
 -- entry 0 is no finish, any other is one
-finishes-0 : (u : ℕ) (us : List ℕ) → u ≡ 0 → finishes (u ∷ us) ≡ finishes us
+pub finishes-0 : (u : ℕ) (us : List ℕ) → u ≡ 0 → finishes (u ∷ us) ≡ finishes us
 unfolding finishes
 finishes-0 u us z = rw (eq-eqb u 0 z)
 
-finishes-u : (u : ℕ) (us : List ℕ) → (u ≡ 0 → ⊥) → finishes (u ∷ us) ≡ u ∷ finishes us
+pub finishes-u : (u : ℕ) (us : List ℕ) → (u ≡ 0 → ⊥) → finishes (u ∷ us) ≡ u ∷ finishes us
 unfolding finishes
 finishes-u u us n = rw (ne-eqb u 0 n)
 
@@ -112,11 +112,11 @@ at-deadline reserve over run gs us o =
     }
 
 -- the first window is in front, and each later one comes one earlier once the first is dropped
-window-first : (period : ℕ) (l : List ℕ) → windowOf period 0 l ≡ take period l
+pub window-first : (period : ℕ) (l : List ℕ) → windowOf period 0 l ≡ take period l
 unfolding windowOf
 window-first period l = ap (λ n. take period (drop n l)) (zero-mul period)
 
-window-later : (period job : ℕ) (l : List ℕ) → windowOf period (suc job) l ≡ windowOf period job (drop period l)
+pub window-later : (period job : ℕ) (l : List ℕ) → windowOf period (suc job) l ≡ windowOf period job (drop period l)
 unfolding windowOf
 window-later period job l =
     ap (λ n. take period (drop n l)) (suc-mul job period ∙ add-comm (job * period) period)

@@ -8,7 +8,7 @@ use lib.ListN.{take}
 use Rattle.rules.specs.Words.{every}
 use Rattle.rules.specs.Choice.{loadOf}
 use Rattle.rules.specs.Admission.{greatOf}
-use Rattle.promises.specs.Runs.{Table, Call, started, after}
+use Rattle.promises.specs.Runs.{Table, started, after}
 
 -- the printed run: document 002's Tables 2 and 3, and the reports of its end lines
 unfoldable pub paperTable : Table

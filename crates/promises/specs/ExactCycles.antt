@@ -6,7 +6,7 @@ use mathlib.Core.List.{List, [], _∷_}
 use lib.Dec.{eqb}
 use lib.ListN.{length, getD, take, drop}
 use Rattle.rules.specs.Words.{total}
-use Rattle.promises.specs.Runs.{Table, Call, Step, started, steps, grantsTo, entriesOf}
+use Rattle.promises.specs.Runs.{Table, Call, started, steps, grantsTo, entriesOf}
 
 -- The window of a task's job, the first job being number 0: the period's ticks from its release to its deadline, as many of them as the run has.
 unfoldable pub windowOf : ℕ → ℕ → List ℕ → List ℕ

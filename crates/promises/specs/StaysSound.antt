@@ -1,5 +1,4 @@
 -- A run never meets 9, nor 12: what start accepts is sound, and every call of tick keeps it so. It ends with 10 at 1,000,000,000 accepted ticks, and not before.
-use Prim.Native.Nat.{ℕ}
 use mathlib.Core.Path.{_≡_}
 use mathlib.Core.Bool.{true, cond}
 use mathlib.Core.List.{List}

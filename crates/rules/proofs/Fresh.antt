@@ -30,7 +30,7 @@ pub past-end : (l : List ℕ) (i : ℕ) → length l ≤ i → getD l i 0 ≡ 0
 past-end l i h = List·getD-eq-default l 0 h
 
 -- the task at a place of the lists, with a job that has not run
-pub unrun : List ℕ → List ℕ → ℕ → Job
+unfoldable pub unrun : List ℕ → List ℕ → ℕ → Job
 unrun ps cs i = record { period = ticks (getD ps i 0); reserve = cycles (getD cs i 0); run = cycles 0; over = false }
 
 -- no job has run or is over, and nothing is counted at any speed

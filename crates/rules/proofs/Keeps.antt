@@ -41,25 +41,31 @@ released-right t p j some r = go (eqb (t % p) 0)
     go true = lt-ltb 0 (j .reserve .0) some
     go false = r
 
--- the settlement of a tick that keeps rule 4
-pub settles : (s : State) → Sound s → Shaped s → (speed : ℕ) (report : List ℕ) → allAllowed (s .tasks) report (orderOf s) (atTickStart (s .jobs) speed) ≡ true → Settles (s .tasks) (s .jobs) (s .tasks .count) speed [] (settled s speed report)
-unfolding settled orderOf readyAt
-settles s f shape speed report a =
-    let n = s .tasks .count in
-    settles-all (s .tasks) (s .jobs) n speed report (orderOf s) (atTickStart (s .jobs) speed) (f .tasks-most) a
-    (settles-begun (s .tasks) (s .jobs) n speed (orderOf s) (shape .runs) (shape .marks) (f .tasks-most) (f .run-right) (order-ready (deadlineAt s) (readyAt s) n) (order-below (deadlineAt s) (readyAt s) n) (order-apart (deadlineAt s) (readyAt s) n) (order-short (deadlineAt s) (readyAt s) n))
+-- the settlement of a tick: as it begins, with the ready jobs to come, and where it keeps rule 4, as it ends
+module _ (s : State) (f : Sound s) (shape : Shaped s) (speed : ℕ) where
+  pub settles-start : Settles (s .tasks) (s .jobs) (s .tasks .count) speed (orderOf s) (atTickStart (s .jobs) speed)
+  unfolding orderOf readyAt
+  settles-start =
+      let n = s .tasks .count in
+      settles-begun (s .tasks) (s .jobs) n speed (orderOf s) (shape .runs) (shape .marks) (f .tasks-most) (f .run-right) (order-ready (deadlineAt s) (readyAt s) n) (order-below (deadlineAt s) (readyAt s) n) (order-apart (deadlineAt s) (readyAt s) n) (order-short (deadlineAt s) (readyAt s) n)
+
+  pub settles : (report : List ℕ) → allAllowed (s .tasks) report (orderOf s) (atTickStart (s .jobs) speed) ≡ true → Settles (s .tasks) (s .jobs) (s .tasks .count) speed [] (settled s speed report)
+  unfolding settled
+  settles report a = settles-all (s .tasks) (s .jobs) (s .tasks .count) speed report (orderOf s) (atTickStart (s .jobs) speed) (f .tasks-most) a settles-start
+
+  -- the job of each task after the tick
+  pub job-after : (report : List ℕ) → allAllowed (s .tasks) report (orderOf s) (atTickStart (s .jobs) speed) ≡ true → (place i : ℕ) → i < s .tasks .count → jobAt (s .tasks) (nextOf s place (settled s speed report) .jobs) i ≡ afterRelease (s .done .0 + 1) (periodAt (s .tasks) i) (jobAt (s .tasks) (settled s speed report .jobs) i)
+  unfolding nextOf
+  job-after report a place i h =
+      let ends = settles report a in
+      releases-at (s .tasks) (s .done .0 + 1) _ (s .tasks .count) i
+      (omega (arith, ends .runs, f .tasks-most)) (omega (arith, ends .marks, f .tasks-most)) h
 
 module _ (s : State) (f : Sound s) (shape : Shaped s) (place speed : ℕ) (report : List ℕ) (room : s .done .0 < mostTicks) (listed : place < s .ladder .count) (fast : speed ≤ topOf (speedsOf (s .ladder))) (lawful : allAllowed (s .tasks) report (orderOf s) (atTickStart (s .jobs) speed) ≡ true) where
   done-so : Settles (s .tasks) (s .jobs) (s .tasks .count) speed [] (settled s speed report)
   done-so = settles s f shape speed report lawful
 
-  -- the job of each task after the tick, and of the places past the tasks
-  pub job-after : (i : ℕ) → i < s .tasks .count → jobAt (s .tasks) (nextOf s place (settled s speed report) .jobs) i ≡ afterRelease (s .done .0 + 1) (periodAt (s .tasks) i) (jobAt (s .tasks) (settled s speed report .jobs) i)
-  unfolding nextOf
-  job-after i h =
-      releases-at (s .tasks) (s .done .0 + 1) _ (s .tasks .count) i
-      (omega (arith, done-so .runs, f .tasks-most)) (omega (arith, done-so .marks, f .tasks-most)) h
-
+  -- the job of the places past the tasks
   job-past : (i : ℕ) → s .tasks .count ≤ i → jobAt (s .tasks) (nextOf s place (settled s speed report) .jobs) i ≡ jobAt (s .tasks) (s .jobs) i
   unfolding nextOf
   job-past i h = releases-past (s .tasks) (s .done .0 + 1) _ (s .tasks .count) i h ∙ done-so .others i h
@@ -70,7 +76,7 @@ module _ (s : State) (f : Sound s) (shape : Shaped s) (place speed : ℕ) (repor
 
   run-right-after : (i : ℕ) → i < s .tasks .count → runRight (jobAt (s .tasks) (nextOf s place (settled s speed report) .jobs) i) ≡ true
   run-right-after i h =
-      rw (job-after i h)
+      rw (job-after s f shape speed report lawful place i h)
       (released-right (s .done .0 + 1) (periodAt (s .tasks) i) (jobAt (s .tasks) (settled s speed report .jobs) i) (some-reserve i h) (done-so .right i h))
 
   unused-after : (i : ℕ) → s .ladder .count ≤ i → i < mostSpeeds → unusedSpeed (nextOf s place (settled s speed report)) i ≡ true

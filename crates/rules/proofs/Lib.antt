@@ -3,6 +3,7 @@ pub mod Climbs
 pub mod Deadlines
 pub mod Energies
 pub mod Fresh
+pub mod GreatLaws
 pub mod Keeps
 pub mod Lists
 pub mod Loads

@@ -1,7 +1,8 @@
 -- The tests of one place, taken apart and put together: what a right run count, an unused task place and an unused speed place say in numbers.
-use mathlib.Core.Path.{_≡_, ap}
-use mathlib.Core.Bool.{true, false, not, _&&_}
+use mathlib.Core.Path.{_≡_, refl, ap}
+use mathlib.Core.Bool.{Bool, true, false, not, _&&_}
 use Prim.Native.Nat.{ℕ, _≤_, _<_}
+use native.Mathlib.Omega.{arith}
 use lib.Dec.{eqb}
 use borrow.Author.Tests.{eqb-true, eq-eqb, lt-ltb, ltb-true, not-true}
 use Rattle.rules.specs.declared.Job.{Job}
@@ -27,6 +28,14 @@ module _ (j : Job) (e : runRight j ≡ true) where
 
   pub over-most : j .over ≡ true → j .run .0 ≤ j .reserve .0
   over-most o = range-to (j .reserve .0) (j .run .0) (run-range o)
+
+-- so no job has run past its reserve
+pub run-most : (j : Job) → runRight j ≡ true → j .run .0 ≤ j .reserve .0
+run-most j e = go (j .over) refl
+  where
+    go : (b : Bool) → j .over ≡ b → j .run .0 ≤ j .reserve .0
+    go true o = over-most j e o
+    go false o = omega (arith, run-below j e o)
 
 pub running-right : (j : Job) → j .over ≡ false → j .run .0 < j .reserve .0 → runRight j ≡ true
 unfolding runRight

@@ -7,7 +7,7 @@ use native.Mathlib.Decide.{ℕ-discrete}
 use native.Mathlib.Omega.{arith}
 use lib.Dec.{eqb, ltb}
 use lib.ListN.{length, getD, length-set}
-use lib.Seq.{getD-set-other}
+use lib.Seq.{getD-set-same, getD-set-other}
 use borrow.Author.Tests.{eqb-true, eqb-false, ltb-true, not-true}
 use Rattle.units.specs.Units.{cycles}
 use Rattle.units.specs.declared.Cycles.{Cycles}
@@ -17,13 +17,13 @@ use Rattle.rules.specs.declared.Settling.{Settling}
 use Rattle.rules.specs.Words.{upTo, total, every}
 use Rattle.rules.specs.Limits.{mostTasks}
 use Rattle.rules.specs.State.{jobAt, putAt}
-use Rattle.rules.specs.Settlement.{allowed, granted, isCut, isOver, settleAt, settleAll, allAllowed, atTickStart}
+use Rattle.rules.specs.Settlement.{allowed, granted, isCut, settleAt, settleAll, allAllowed, atTickStart}
 use Rattle.rules.specs.Numbers.{runRight}
 use Rattle.rules.proofs.Lists.{both-left, both-right, every-first, every-rest, length-upTo, getD-upTo}
 use Rattle.rules.proofs.Orders.{apart, every-mono}
-use Rattle.rules.proofs.Stores.{withRun, put-same, put-other}
+use Rattle.rules.proofs.Stores.{put-same, put-other}
 use Rattle.rules.proofs.Totals.{total-set}
-use Rattle.rules.proofs.Shares.{granted-left, granted-right}
+use Rattle.rules.proofs.Shares.{settledJob, granted-left, granted-right}
 
 -- the cycles granted so far
 abbrev pub grantsSum : Settling → ℕ
@@ -53,32 +53,56 @@ every-kept q r i same (k ∷ o) n e =
     let there : every r o ≡ true = every-kept q r i same o (both-right (not (eqb k i)) (every (λ x. not (eqb x i)) o) n) (both-right (q k) (every q o) e) in
     rw (here, there)
 
+-- the turn of place i: the job and the grant there, and elsewhere
+module _ (ts : Tasks) (i u : ℕ) (sofar : Settling) where
+  pub job-here : i < length (sofar .jobs .run) → i < length (sofar .jobs .over) → jobAt ts (settleAt ts i u sofar .jobs) i ≡ settledJob (sofar .left .0) u (jobAt ts (sofar .jobs) i)
+  unfolding settleAt
+  job-here r m = put-same ts (sofar .jobs) i _ _ r m
+
+  pub job-elsewhere : (k : ℕ) → (k ≡ i → ⊥) → jobAt ts (settleAt ts i u sofar .jobs) k ≡ jobAt ts (sofar .jobs) k
+  unfolding settleAt
+  job-elsewhere k ne = put-other ts (sofar .jobs) i _ _ k ne
+
+  pub grant-here : i < length (sofar .grants) → getD (settleAt ts i u sofar .grants) i (cycles 0) .0 ≡ granted (sofar .left .0) u (jobAt ts (sofar .jobs) i)
+  unfolding settleAt
+  grant-here l = ap (λ (g : Cycles). g .0) (getD-set-same (sofar .grants) i _ (cycles 0) l)
+
+  pub grant-elsewhere : (k : ℕ) → (k ≡ i → ⊥) → getD (settleAt ts i u sofar .grants) k (cycles 0) .0 ≡ getD (sofar .grants) k (cycles 0) .0
+  unfolding settleAt
+  grant-elsewhere k ne = ap (λ (g : Cycles). g .0) (getD-set-other (sofar .grants) i k _ (cycles 0) ne)
+
+-- the first job of those still to be settled
+module _ (ts : Tasks) (js : Jobs) (n speed : ℕ) (i : ℕ) (o : List ℕ) (sofar : Settling) (v : Settles ts js n speed (i ∷ o) sofar) where
+  pub first-below : i < n
+  first-below = ltb-true i n (every-first (λ k. ltb k n) i o (v .below))
+
+  pub first-ready : jobAt ts (sofar .jobs) i .over ≡ false
+  first-ready = not-true _ (every-first (λ k. not (jobAt ts (sofar .jobs) k .over)) i o (v .waiting))
+
+  pub first-once : every (λ k. not (eqb k i)) o ≡ true
+  unfolding apart
+  first-once = both-left (every (λ k. not (eqb k i)) o) (apart o) (v .different)
+
 -- one job settled
 module _ (ts : Tasks) (js : Jobs) (n speed : ℕ) (i u : ℕ) (o : List ℕ) (sofar : Settling) (most : n ≤ mostTasks) (v : Settles ts js n speed (i ∷ o) sofar) (a : allowed (sofar .left .0) u (jobAt ts (sofar .jobs) i) ≡ true) where
   place : i < n
-  place = ltb-true i n (every-first (λ k. ltb k n) i o (v .below))
+  place = first-below ts js n speed i o sofar v
 
   ready : jobAt ts (sofar .jobs) i .over ≡ false
-  ready = not-true _ (every-first (λ k. not (jobAt ts (sofar .jobs) k .over)) i o (v .waiting))
+  ready = first-ready ts js n speed i o sofar v
 
   new : every (λ k. not (eqb k i)) o ≡ true
-  unfolding apart
-  new = both-left (every (λ k. not (eqb k i)) o) (apart o) (v .different)
+  new = first-once ts js n speed i o sofar v
 
   none-yet : getD (sofar .grants) i (cycles 0) .0 ≡ 0
   none-yet = eqb-true _ 0 (every-first (λ k. eqb (getD (sofar .grants) k (cycles 0) .0) 0) i o (v .ungranted))
 
-  share : ℕ
-  share = granted (sofar .left .0) u (jobAt ts (sofar .jobs) i)
-
   -- the jobs after it, at its place and elsewhere
-  here : jobAt ts (settleAt ts i u sofar .jobs) i ≡ withRun (jobAt ts (sofar .jobs) i) (jobAt ts (sofar .jobs) i .run .0 + granted (sofar .left .0) u (jobAt ts (sofar .jobs) i)) (isOver (sofar .left .0) u (jobAt ts (sofar .jobs) i))
-  unfolding settleAt
-  here = put-same ts (sofar .jobs) i _ _ (omega (arith, v .runs, place)) (omega (arith, v .marks, place))
+  here : jobAt ts (settleAt ts i u sofar .jobs) i ≡ settledJob (sofar .left .0) u (jobAt ts (sofar .jobs) i)
+  here = job-here ts i u sofar (omega (arith, v .runs, place)) (omega (arith, v .marks, place))
 
   elsewhere : (k : ℕ) → (k ≡ i → ⊥) → jobAt ts (settleAt ts i u sofar .jobs) k ≡ jobAt ts (sofar .jobs) k
-  unfolding settleAt
-  elsewhere k ne = put-other ts (sofar .jobs) i _ _ k ne
+  elsewhere = job-elsewhere ts i u sofar
 
   still-right : (k : ℕ) → k < n → runRight (jobAt ts (settleAt ts i u sofar .jobs) k) ≡ true
   still-right k l = go (ℕ-discrete k i)
@@ -118,7 +142,7 @@ module _ (ts : Tasks) (js : Jobs) (n speed : ℕ) (i u : ℕ) (o : List ℕ) (so
         right = still-right;
         others = still-others;
         waiting = every-kept _ _ i (λ k ne. sym (ap (λ j. not (j .over)) (elsewhere k ne))) o new (every-rest (λ k. not (jobAt ts (sofar .jobs) k .over)) i o (v .waiting));
-        ungranted = every-kept _ _ i (λ k ne. sym (ap (λ (g : Cycles). eqb (g .0) 0) (getD-set-other (sofar .grants) i k _ (cycles 0) ne))) o new (every-rest (λ k. eqb (getD (sofar .grants) k (cycles 0) .0) 0) i o (v .ungranted));
+        ungranted = every-kept _ _ i (λ k ne. sym (ap (λ g. eqb g 0) (grant-elsewhere ts i u sofar k ne))) o new (every-rest (λ k. eqb (getD (sofar .grants) k (cycles 0) .0) 0) i o (v .ungranted));
         below = every-rest (λ k. ltb k n) i o (v .below);
         different = both-right (every (λ k. not (eqb k i)) o) (apart o) (v .different);
         shared = still-shared;

@@ -13,6 +13,10 @@ use Rattle.rules.proofs.Lists.{both-left, both-right}
 use Rattle.rules.proofs.Ranges.{in-range}
 use Rattle.rules.proofs.Stores.{withRun}
 
+-- a ready job once it is settled, by what is left and its entry
+abbrev pub settledJob : ℕ → ℕ → Job → Job
+settledJob left u j = withRun j (j .run .0 + granted left u j) (isOver left u j)
+
 -- the bullet that applies
 module _ {A : Type 0} (left u : ℕ) (x y z : A) where
   nothing-left : eqb left 0 ≡ true → byBullet left u x y z ≡ x
@@ -51,7 +55,7 @@ module _ (left u : ℕ) (j : Job) where
       go false false e f = rw (entry-u left u 0 (min left (remaining j)) (u - j .run .0) e f) (above-run e f a .2)
 
   -- a ready job's run count is still right
-  pub granted-right : runRight j ≡ true → j .over ≡ false → allowed left u j ≡ true → runRight (withRun j (j .run .0 + granted left u j) (isOver left u j)) ≡ true
+  pub granted-right : runRight j ≡ true → j .over ≡ false → allowed left u j ≡ true → runRight (settledJob left u j) ≡ true
   unfolding granted isOver runRight withRun usesUp remaining
   granted-right r o a = go (eqb left 0) (eqb u 0) refl refl
     where

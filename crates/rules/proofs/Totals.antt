@@ -8,7 +8,7 @@ use lib.ListN.{length, getD, set}
 use Rattle.rules.specs.Words.{upTo, total}
 
 -- a sum over the places of a list of values is the sum over the values
-pub total-places : (f g : ℕ → ℕ) (n : ℕ) → total f (upTo n g) ≡ total (λ i. f (g i)) (upTo n (λ i. i))
+pub total-places : {A : Type 0} (f : A → ℕ) (g : ℕ → A) (n : ℕ) → total f (upTo n g) ≡ total (λ i. f (g i)) (upTo n (λ i. i))
 unfolding total upTo
 total-places f g zero = refl
 total-places f g (suc n) =
