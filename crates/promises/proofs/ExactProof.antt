@@ -19,7 +19,6 @@ use Rattle.promises.specs.Runs.{Table, Call, Step, started, stepOf, step
 use Rattle.promises.specs.NeverLate.{OverAtRelease}
 use Rattle.promises.specs.ExactCycles.{ExactlyTheCycles}
 use Rattle.promises.proofs.RunLaws.{next, Taken, by-steps}
-use Rattle.promises.proofs.Portions.{portion}
 use Rattle.promises.proofs.StartLaws.{started-is, tasks-count}
 use Rattle.promises.proofs.StepPlaces.{OfJob, Onward, go-some, go-fresh, step-portion, tick-first}
 use Rattle.promises.proofs.Windows.{Ahead, all-served, ahead-none, ahead-on, ahead-due}
@@ -33,10 +32,10 @@ module _ (s : State) (call : Call) (shape : Shaped s) (e : Taken s call) (over-t
   tick-ahead : (xs : List Step) → Onward (WithTask (s .tasks) i) i (next s call) (grantsTo i xs) (entriesOf i xs) → Onward (WithTask (s .tasks) i) i s (grantsTo i (stepOf s call ∷ xs)) (entriesOf i (stepOf s call ∷ xs))
   unfolding jobAt reserveAt OverAtRelease
   tick-ahead =
-      let portion = step-portion s call shape e i h in
+      let part = step-portion s call shape e i h in
       tick-first s call shape e i h (WithTask (s .tasks) i) (WithTask (s .tasks) i)
-      (λ togo gs us a. ahead-on (periodAt (s .tasks) i) _ _ _ _ portion gs us togo a)
-      (λ r gs us a. ahead-due (periodAt (s .tasks) i) _ _ _ _ portion gs us (over-then i h r) a)
+      (λ togo gs us a. ahead-on (periodAt (s .tasks) i) _ _ _ _ part gs us togo a)
+      (λ r gs us a. ahead-due (periodAt (s .tasks) i) _ _ _ _ part gs us (over-then i h r) a)
 
 -- an accepted start: every task has a fresh job at hand, with a whole period to go
 module _ (table : Table) (e : started table .number ≡ 0) where

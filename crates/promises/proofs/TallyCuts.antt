@@ -12,7 +12,7 @@ use Rattle.rules.proofs.Places.{run-below}
 use Rattle.promises.specs.Runs.{Call, Step, stepOf, steps, after, grantsTo, entriesOf, sumTo}
 use Rattle.promises.proofs.RunLaws.{next, Taken, facts, by-steps}
 use Rattle.promises.proofs.Sums.{sum-zero, sum-add}
-use Rattle.promises.proofs.Portions.{cutAt, portion, cut-is}
+use Rattle.promises.proofs.Portions.{cutAt, cut-is}
 use Rattle.promises.proofs.SoundRuns.{SoundAndShaped, sound-next}
 use Rattle.promises.proofs.StepPlaces.{OfJob, toGo, step-portion, tick-first}
 use Rattle.promises.proofs.CutWindows.{CutsToCome, cuts-none, cuts-on, cuts-due}
@@ -43,10 +43,10 @@ module _ (s : State) (call : Call) (kept : SoundAndShaped s) (e : Taken s call) 
   tick-cuts : (i : ℕ) → i < s .tasks .count → (xs : List Step) (cuts : ℕ) → CutsOnward i (next s call) (grantsTo i xs) (entriesOf i xs) cuts → CutsOnward i s (grantsTo i (stepOf s call ∷ xs)) (entriesOf i (stepOf s call ∷ xs)) (cutAt s (speedOf s) (call .report) i + cuts)
   unfolding jobAt reserveAt nextOf
   tick-cuts i h xs cuts =
-      let portion = step-portion s call (kept .shape) e i h in
+      let part = step-portion s call (kept .shape) e i h in
       tick-first s call (kept .shape) e i h (CutsOf (s .tasks) i cuts) (CutsOf (s .tasks) i (cutAt s (speedOf s) (call .report) i + cuts))
-      (λ togo gs us rest. cuts-on (periodAt (s .tasks) i) _ _ _ _ portion gs us cuts togo rest)
-      (λ r gs us rest. cuts-due (periodAt (s .tasks) i) _ _ _ _ portion gs us cuts rest)
+      (λ togo gs us rest. cuts-on (periodAt (s .tasks) i) _ _ _ _ part gs us cuts togo rest)
+      (λ r gs us rest. cuts-due (periodAt (s .tasks) i) _ _ _ _ part gs us cuts rest)
       xs
 
 -- the cuts of a run: those of each task, and what they come to together
