@@ -17,7 +17,7 @@ use Rattle.rules.specs.declared.Ticked.{Ticked}
 use Rattle.rules.specs.Words.{total}
 use Rattle.rules.specs.Limits.{mostSpeeds, mostTicks}
 use Rattle.rules.specs.State.{Shaped, periodAt, reserveAt, speedAt, voltsAt, countAt, jobAt, speedsOf, topOf}
-use Rattle.rules.specs.Choice.{readyAt, deadlineAt, orderOf, speedPlace, speedOf}
+use Rattle.rules.specs.Choice.{readyAt, orderOf, speedPlace, speedOf}
 use Rattle.rules.specs.Settlement.{atTickStart, settled, allAllowed, overEntriesZero, keepsRule4}
 use Rattle.rules.specs.Counting.{counted, nextOf}
 use Rattle.rules.specs.Numbers.{runRight, unusedSpeed, sound, tickNumber}
@@ -47,7 +47,7 @@ module _ (s : State) (f : Sound s) (shape : Shaped s) (speed : ℕ) where
   unfolding orderOf readyAt
   settles-start =
       let n = s .tasks .count in
-      settles-begun (s .tasks) (s .jobs) n speed (orderOf s) (shape .runs) (shape .marks) (f .tasks-most) (f .run-right) (order-ready (deadlineAt s) (readyAt s) n) (order-below (deadlineAt s) (readyAt s) n) (order-apart (deadlineAt s) (readyAt s) n) (order-short (deadlineAt s) (readyAt s) n)
+      settles-begun (s .tasks) (s .jobs) n speed (orderOf s) (shape .runs) (shape .marks) (f .tasks-most) (f .run-right) (order-ready _ (readyAt s) n) (order-below _ (readyAt s) n) (order-apart _ (readyAt s) n) (order-short _ (readyAt s) n)
 
   pub settles : (report : List ℕ) → allAllowed (s .tasks) report (orderOf s) (atTickStart (s .jobs) speed) ≡ true → Settles (s .tasks) (s .jobs) (s .tasks .count) speed [] (settled s speed report)
   unfolding settled
