@@ -8,11 +8,11 @@ use lib.ListN.{length, getD, take, drop}
 use Rattle.rules.specs.Words.{total}
 use Rattle.promises.specs.Runs.{Table, Call, started, steps, grantsTo, entriesOf}
 
--- The window of a task's job, the first job being number 0: the period's ticks from its release to its deadline, as many of them as the run has.
+-- Rule 1. The window of a task's job, the first job being number 0: the period's ticks from its release to its deadline, as many of them as the run has.
 unfoldable pub windowOf : ℕ → ℕ → List ℕ → List ℕ
 windowOf period job l = take period (drop (job * period) l)
 
--- the finishes among the entries of a window
+-- Rule 4. The finishes among the entries of a window: those that are not 0.
 unfoldable pub finishes : List ℕ → List ℕ
 finishes [] = []
 finishes (u ∷ us) = cond (eqb u 0) (finishes us) (u ∷ finishes us)

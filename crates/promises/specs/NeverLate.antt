@@ -13,7 +13,7 @@ use Rattle.rules.specs.Counting.{nextOf}
 use Rattle.rules.specs.Numbers.{sound}
 use Rattle.promises.specs.Runs.{Table, Call, Step, Each, started, after, steps, sumTo}
 
--- Once a tick at a speed is settled, the job of every task that is released next is over.
+-- Rule 5. Once a tick at a speed is settled, the job of every task whose period divides the new t, and which is released then, is over.
 unfoldable pub OverAtRelease : State → ℕ → List ℕ → Type 0
 OverAtRelease s speed report =
     (i : ℕ) → i < s .tasks .count → eqb ((s .done .0 + 1) % periodAt (s .tasks) i) 0 ≡ true
@@ -27,8 +27,8 @@ pub record NeverLate (table : Table) (calls : List Call) : Type 0 where
 unfoldable pub NeverLateInAnyRun : Type 0
 NeverLateInAnyRun = (table : Table) → started table .number ≡ 0 → (calls : List Call) → NeverLate table calls
 
--- Why: at every tick t and for every number d, the jobs that are due by d still owe, times H, no more than they have room for until they are due,
--- where a task has use x (H / P) a tick.
+-- Why: at every tick t and for every number d, the jobs that are due by d (rule 1) still owe, times H, no more than they have room for until they
+-- are due, where rule 2 gives a task use x (H / P) in each tick. What the task at place i owes by d, and its room:
 unfoldable pub owedAt : State → ℕ → ℕ → ℕ
 owedAt s d i =
     cond (leb (deadlineAt s i) d && readyAt s i) (remaining (jobAt (s .tasks) (s .jobs) i) * s .tasks .great .0) 0
@@ -39,11 +39,12 @@ roomAt s d i =
     (useOf (jobAt (s .tasks) (s .jobs) i) * (s .tasks .great .0 / periodAt (s .tasks) i) * (deadlineAt s i - s .done .0))
     0
 
+-- the first is at most the second, summed over the tasks, for every d
 unfoldable pub Covered : State → Type 0
 Covered s = (d : ℕ) → sumTo (s .tasks .count) (owedAt s d) ≤ sumTo (s .tasks .count) (roomAt s d)
 
--- A fresh start is covered, and ANY tick stays so and releases no job late whose speed carries the load wherever a job is ready: the governor's
--- lowest speed is one such.
+-- A fresh start is covered. And ANY tick that keeps rule 4, whose speed carries the load wherever a job is ready, releases no job late and stays
+-- covered, at whatever place its cycles are counted: the governor's lowest speed is one such.
 unfoldable pub FreshIsCovered : Type 0
 FreshIsCovered = (table : Table) → started table .number ≡ 0 → Covered (started table .state)
 

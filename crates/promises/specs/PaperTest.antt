@@ -19,20 +19,20 @@ pub record CommonMultiple (multiple : ℕ) (periods : List ℕ) : Type 0 where
   pub some : 0 < multiple
   pub of-each : every (λ p. eqb (multiple % p) 0) periods ≡ true
 
--- Figure 1, EDF: C1 / P1 + .. + Cn / Pn is at most the speed. Both sides times any common multiple of the periods, and not only times H, it is rule 7's test.
+-- Figure 1, EDF, and rule 7: C1 / P1 + .. + Cn / Pn is at most the speed. Both sides times any common multiple of the periods, and not only times H, it is the test that admits a table.
 unfoldable pub Figure1 : Type 0
 Figure1 =
     (periods reserves : List ℕ) (multiple : ℕ) → CommonMultiple multiple periods
     → (s : ℕ) → (fullLoad multiple periods reserves ≤ s * multiple) ↔ (fullLoad (greatOf periods) periods reserves ≤ s * greatOf periods)
 
--- Figure 4: U1 + .. + Un is at most the speed, where U is use / P: the same of the load of a state.
+-- Figure 4, and rule 2: U1 + .. + Un is at most the speed, where U is use / P: the same of the load of a state.
 unfoldable pub Figure4 : Type 0
 Figure4 =
     (state : State) → sound state ≡ true
     → (multiple : ℕ) → CommonMultiple multiple (periodsOf (state .tasks))
     → (s : ℕ) → (load multiple (jobsOf (state .tasks) (state .jobs)) ≤ s * multiple) ↔ (loadOf state ≤ s * state .tasks .great .0)
 
--- The speed that now answers is listed, it carries the load, and no lower listed one does.
+-- Rule 3. The speed that now answers is listed, it carries the load, and no lower listed one does.
 pub record LowestThatCarries (state : State) (answered : ℕ) : Type 0 where
   pub place : ℕ
   pub is-listed : place < state .ladder .count
@@ -43,7 +43,7 @@ pub record LowestThatCarries (state : State) (answered : ℕ) : Type 0 where
 unfoldable pub LowestSpeedIsTold : Type 0
 LowestSpeedIsTold = (state : State) → nowOf state .number ≡ 0 → LowestThatCarries state (nowOf state .speed .0)
 
--- The task that now names is ready, answered with its deadline, and no ready task comes before it: none is due earlier, and of those due then none has a lower number.
+-- Rule 3. The task that now names is ready, answered with its deadline, and no ready task comes before it: none is due earlier, and of those due then none has a lower number.
 pub record Earliest (state : State) (task due : ℕ) : Type 0 where
   pub place : ℕ
   pub is-task : place < state .tasks .count

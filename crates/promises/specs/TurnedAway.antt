@@ -13,7 +13,7 @@ HandOut = ℕ → ℕ → ℕ
 unfoldable pub WithinTopSpeed : Table → HandOut → Type 0
 WithinTopSpeed table out = (t : ℕ) → sumTo (length (table .periods)) (out t) ≤ topOf (table .speeds)
 
--- what a task's job, the first being number 0, gets from its release to its deadline
+-- Rule 1. What a task's job, the first being number 0, gets from its release to its deadline.
 unfoldable pub gets : HandOut → ℕ → ℕ → ℕ → ℕ
 gets out i period job = sumTo period (λ k. out (job * period + k) i)
 
@@ -25,6 +25,6 @@ pub record Starved (table : Table) (out : HandOut) : Type 0 where
   pub released-early : job * getD (table .periods) task 0 < greatOf (table .periods)
   pub gets-less : gets out task (getD (table .periods) task 0) job < getD (table .reserves) task 0
 
--- Where start answers 8, every way to run the table at top speed starves a job.
+-- Rule 7. Where start answers 8, every way to run the table at top speed starves a job.
 unfoldable pub TurnedAwayForLoad : Type 0
 TurnedAwayForLoad = (table : Table) → started table .number ≡ 8 → (out : HandOut) → WithinTopSpeed table out → Starved table out
