@@ -26,7 +26,7 @@ use Rattle.rules.proofs.Lists.{both-right}
 use Rattle.rules.proofs.Soundness.{Sound}
 use Rattle.rules.proofs.Deadlines.{release-due}
 use Rattle.rules.proofs.Settles.{Settles}
-use Rattle.rules.proofs.Keeps.{settles}
+use Rattle.rules.proofs.Keeps.{jobs-right, settles}
 use Rattle.rules.proofs.CallRows.{tick-refused, grants-kept}
 use Rattle.rules.proofs.Loads.{place-below, speed-of-at, speed-of-most, top-limit}
 use Rattle.choosing.specs.Choosing.{duesOf, dueIn, orderIn}
@@ -124,7 +124,7 @@ module _ (s : State) (f : Sound s) where
   unfolding keepsRule4 countAt
   steps shape room report lawful =
       let allows = both-right (overEntriesZero (s .tasks) (s .jobs) report) (allAllowed (s .tasks) report (orderOf s) (atTickStart (s .jobs) (speedOf s))) lawful in
-      let done-so : Settles (s .tasks) (s .jobs) (s .tasks .count) (speedOf s) [] (settled s (speedOf s) report) = settles s f shape (speedOf s) report allows in
+      let done-so : Settles (s .tasks) (s .jobs) (s .tasks .count) (speedOf s) [] (settled s (speedOf s) report) = settles s (jobs-right s f shape) (speedOf s) report allows in
       let most : s .done .0 * topOf (speedsOf (s .ladder)) ≤ mostTicks * mostSpeed = mul-le-mul (f .done-most) (top-limit s f) in
       let fast : speedOf s ≤ mostSpeed = omega (arith, speed-of-most s f, top-limit s f) in
       let one = one-count (s .tally .counts) (speedPlace s) in

@@ -9,7 +9,12 @@ use Rattle.rules.specs.State.{periodAt, jobAt}
 use Rattle.rules.specs.Load.{deadline, useOf}
 use Rattle.rules.specs.Choice.{deadlineAt, readyAt}
 use Rattle.rules.specs.Settlement.{remaining}
-use Rattle.promises.specs.NeverLate.{owedAt, roomAt}
+use Rattle.rules.proofs.Keeps.{JobsRight}
+use Rattle.promises.specs.NeverLate.{owedAt, roomAt, TasksRight}
+
+-- the jobs of a state whose tasks are right
+pub right-jobs : (s : State) → TasksRight s → JobsRight s
+right-jobs s r = record { few = r .few; right = r .run-right; runs = r .runs; marks = r .marks }
 
 -- what a job that is due by d still owes
 unfoldable pub owes : ℕ → ℕ → ℕ → Job → ℕ

@@ -12,10 +12,10 @@ use Rattle.rules.specs.Admission.{greatOf, fullLoad, admitted}
 use Rattle.rules.specs.Numbers.{sameCount, speedsRise, voltsNeverFall, startNumber, tablesPass, greatRight, unusedJob, unusedTasks, unusedSpeed, unusedSpeeds, ticksBounded, runRight, runsRight, cyclesBounded, lateBounded, cutBounded, sound, allDone, tickNumber}
 use Rattle.rules.specs.Calls.{tasksFrom, ladderFrom, freshJobs, freshTally, freshState, zeroState, startOf, tickOf}
 use Rattle.promises.specs.Runs.{started, ticked, after}
-use Rattle.promises.specs.EitherSide.{paperTable, reports, loadAt, numberOf, rows, EitherSideOfTheLine}
+use Rattle.promises.specs.EitherSide.{paperTable, reports, stateAt, loadAt, numberOf, rows, EitherSideOfTheLine}
 
 pub every-row : EitherSideOfTheLine
-unfolding EitherSideOfTheLine rows loadAt numberOf reports paperTable started ticked after
+unfolding EitherSideOfTheLine rows stateAt loadAt numberOf reports paperTable started ticked after
     euclid gcdOf lcmOf lcmAll upTo total every firstOf upToMost periodAt reserveAt speedAt voltsAt countAt jobAt putAt jobsOf periodsOf reservesOf speedsOf voltsOf topOf
     deadline useOf load carries insertBy orderBy deadlineAt readyAt orderOf lowest loadOf fitsOf speedPlace speedOf noneCarries
     byBullet remaining usesUp allowed granted isCut isOver settleAt settleAll allAllowed overEntriesZero atTickStart settled keepsRule4 counted releaseAt releases nextOf

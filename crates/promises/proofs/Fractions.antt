@@ -1,24 +1,27 @@
 -- The tests of Figures 1 and 4 are the same at every common multiple: it is H some times over, so both sides are taken so many times, and that cancels.
-use mathlib.Core.Path.{_≡_, sym, ap, _∙_}
+use mathlib.Core.Path.{_≡_, refl, sym, ap, _∙_}
 use mathlib.Core.List.{List, [], _∷_}
 use mathlib.Core.Logic.{_↔_}
-use Prim.Native.Nat.{ℕ, zero, suc, suc-le-suc, _*_, _/_, _%_, _≤_, _<_, _∣_}
-use native.Mathlib.Nat.{mul-zero, mul-add, mul-left-comm, mul-le-mul-left, le-of-mul-le-mul-left, mul-div-assoc, div-mul-cancel, dvd-mul-right, dvd-of-mod-eq-zero, pos-of-dvd-of-pos, zero-lt-suc}
-use lib.Dec.{eqb}
+use Prim.Native.Nat.{ℕ, zero, suc, suc-le-suc, _*_, _/_, _≤_, _<_, _∣_}
+use native.Mathlib.Nat.{mul-zero, mul-add, mul-left-comm, mul-le-mul-left, le-of-mul-le-mul-left, mul-div-assoc, div-mul-cancel, dvd-mul-right, pos-of-dvd-of-pos, zero-lt-suc}
 use lib.ListN.{length, getD}
-use borrow.Author.Tests.{eqb-true}
+use native.Mathlib.Decide.{decLt}
+use native.Mathlib.Omega.{arith}
 use Rattle.divisors.proofs.DivisorLaws.{all-is, all-each}
 use Rattle.rules.specs.declared.Job.{Job}
 use Rattle.rules.specs.declared.State.{State}
 use Rattle.rules.specs.Words.{upTo, total}
-use Rattle.rules.specs.State.{jobAt, jobsOf, periodAt, periodsOf}
+use Rattle.rules.specs.State.{jobAt, jobsOf, periodAt, periodsOf, topOf}
 use Rattle.rules.specs.Load.{useOf, load}
 use Rattle.rules.specs.Choice.{loadOf}
 use Rattle.rules.specs.Admission.{greatOf, fullLoad}
-use Rattle.rules.proofs.Lists.{every-at}
-use Rattle.rules.proofs.Soundness.{Sound, sound-facts}
+use Rattle.rules.specs.Calls.{startOf}
+use Rattle.rules.proofs.Soundness.{Sound, sound-facts, admitted-fits}
 use Rattle.rules.proofs.GreatLaws.{divides-great}
-use Rattle.promises.specs.PaperTest.{CommonMultiple, Figure1, Figure4}
+use Rattle.promises.specs.PaperTest.{CommonMultiple, Figure1, StartTestsFigure1, Figure4}
+use Rattle.promises.specs.Runs.{started}
+use Rattle.promises.proofs.StartLaws.{passed}
+use Rattle.promises.proofs.Starves.{overloaded}
 
 -- one term of a sum: q times H over a period that divides H
 term-times : (q h p c : ℕ) → p ∣ h → c * (q * h / p) ≡ q * (c * (h / p))
@@ -57,8 +60,7 @@ module _ (ps : List ℕ) (multiple : ℕ) (c : CommonMultiple multiple ps) where
   great-divides : greatOf ps ∣ multiple
   unfolding greatOf
   great-divides =
-      all-is ps .least multiple
-      (λ k l. dvd-of-mod-eq-zero (getD ps k 0) (eqb-true _ 0 (every-at (λ p. eqb (multiple % p) 0) ps 0 k (c .of-each) l)))
+      all-is ps .least multiple (c .of-each)
 
   times : ℕ
   times = multiple / greatOf ps
@@ -80,10 +82,37 @@ figure-1 ps cs multiple c s =
     test-times q h s multiple (fullLoad h ps cs) (fullLoad multiple ps cs) (times-some ps multiple c) e
     (ap (λ m. fullLoad m ps cs) e ∙ full-times q h ps cs (all-each ps))
 
+-- so a table that start accepts passes the test, and one that it turns away for load fails it
+pub start-tests : StartTestsFigure1
+unfolding StartTestsFigure1 Figure1 started startOf
+start-tests table multiple c = (fits, fails)
+  where
+    ps : List ℕ
+    ps = table .periods
+
+    cs : List ℕ
+    cs = table .reserves
+
+    top : ℕ
+    top = topOf (table .speeds)
+
+    same : (fullLoad multiple ps cs ≤ top * multiple) ↔ (fullLoad (greatOf ps) ps cs ≤ top * greatOf ps)
+    same = figure-1 ps cs multiple c top
+
+    fits : started table .number ≡ 0 → fullLoad multiple ps cs ≤ top * multiple
+    fits e = same .1 (admitted-fits ps cs (table .speeds) (greatOf ps) refl (passed table e .admits))
+
+    fails : started table .number ≡ 8 → top * multiple < fullLoad multiple ps cs
+    fails e = go (decLt (top * multiple) (fullLoad multiple ps cs))
+      where
+        go : Dec (top * multiple < fullLoad multiple ps cs) → top * multiple < fullLoad multiple ps cs
+        go (yes l) = l
+        go (no l) = absurd (omega (arith, overloaded ps cs (table .speeds) (table .volts) e .too-much, same .0 (omega arith)))
+
 -- each job's period divides H
 job-divides : (state : State) → Sound state → (i : ℕ) → i < state .tasks .count → jobAt (state .tasks) (state .jobs) i .period .0 ∣ state .tasks .great .0
 unfolding periodAt jobAt
-job-divides state f i l = divides-great state f i l
+job-divides state f i l = divides-great state (f .great-is) i l
 
 -- the load's test: H of a sound state is the great period of its table
 pub figure-4 : Figure4

@@ -1,6 +1,7 @@
 pub mod Sums
 pub mod RunLaws
 pub mod StartLaws
+pub mod GoesOn
 pub mod SoundRuns
 pub mod Levels
 pub mod NowTells

@@ -14,30 +14,47 @@ use Rattle.rules.specs.Choice.{orderOf, speedPlace, speedOf}
 use Rattle.rules.specs.Settlement.{allAllowed, overEntriesZero, atTickStart, keepsRule4}
 use Rattle.rules.specs.Calls.{freshTally, freshState}
 use Rattle.rules.proofs.Lists.{both-right}
-use Rattle.rules.proofs.Soundness.{Sound, sound-facts, facts-sound}
 use Rattle.rules.proofs.Loads.{speed-enough}
-use Rattle.rules.proofs.Fresh.{run-fresh, over-fresh, fresh-facts}
+use Rattle.rules.proofs.Fresh.{run-fresh, over-fresh}
 use Rattle.promises.specs.Runs.{Table, Call, Step, Each, started, after, steps, stepOf}
-use Rattle.promises.specs.NeverLate.{OverAtRelease, NeverLateInAnyRun, Covered, FreshIsCovered, OnTime, AnyTickThatCarriesTheLoad}
+use Rattle.promises.specs.NeverLate.{OverAtRelease, NeverLateInAnyRun, Covered, TasksRight, OnCourse, FreshStartIsOnCourse, OnTime, AnyTickThatCarriesTheLoad}
 use Rattle.promises.proofs.RunLaws.{Taken, next, facts, step-speed, by-steps}
 use Rattle.promises.proofs.Sums.{sum-same}
-use Rattle.promises.proofs.StartLaws.{freshOf, started-is, passed}
-use Rattle.promises.proofs.SoundRuns.{sound-next, sound-start}
+use Rattle.promises.proofs.StartLaws.{freshOf, started-is}
+use Rattle.promises.proofs.SoundRuns.{SoundAndShaped, sound-next, sound-start}
 use Rattle.promises.proofs.Invariant.{Kept}
 use Rattle.promises.proofs.Renews.{fresh-room}
-use Rattle.promises.proofs.TickBooks.{owing, rooms, is-covered, job-whole, over-then, late-stays, covered-then}
+use Rattle.promises.proofs.TickBooks.{owing, rooms, is-covered, job-whole, over-then, late-stays, covered-then, right-then}
 
 -- Any tick that keeps rule 4, at a speed that carries the load wherever a job is ready.
 pub any-tick : AnyTickThatCarriesTheLoad
 unfolding AnyTickThatCarriesTheLoad keepsRule4
-any-tick s e shape covered place speed report lawful fast =
-    let f : Sound s = sound-facts s e in
+any-tick s course place speed report lawful fast =
+    let r = course .tasks-right in
+    let c = course .covered in
     let allowed : allAllowed (s .tasks) report (orderOf s) (atTickStart (s .jobs) speed) ≡ true =
     both-right (overEntriesZero (s .tasks) (s .jobs) report) _ lawful in
     record {
-      over-at-release = over-then s f shape covered speed report allowed fast;
-      none-late = late-stays s f shape covered speed report allowed fast place;
-      covered = covered-then s f shape covered speed report allowed fast place;
+      over-at-release = over-then s r c speed report allowed fast;
+      none-late = late-stays s r c speed report allowed fast place;
+      stays = record {
+        tasks-right = right-then s r c speed report allowed fast place;
+        covered = covered-then s r c speed report allowed fast place;
+      };
+    }
+
+-- the tasks of a sound state are right
+sound-right : (s : State) → SoundAndShaped s → TasksRight s
+sound-right s kept =
+    let f = kept .facts in
+    record {
+      few = f .tasks-most;
+      period-some = f .period-some;
+      reserve-some = f .reserve-some;
+      great-is = f .great-is;
+      run-right = f .run-right;
+      runs = kept .shape .runs;
+      marks = kept .shape .marks;
     }
 
 -- at tick 0 a deadline is a whole period away
@@ -47,24 +64,24 @@ first-deadline j = omega (arith, zero-mod (j .period .0))
 
 -- an accepted start
 module _ (table : Table) (e : started table .number ≡ 0) where
-  fresh-sound : Sound (freshOf table)
-  fresh-sound = fresh-facts _ _ _ _ (passed table e)
+  fresh-right : TasksRight (freshOf table)
+  fresh-right = rw (started-is table e) at (sound-right (started table .state) (sound-start table e))
 
   -- no job has run or is over, so each has room for all that it owes
   not-run : (i : ℕ) → i < freshOf table .tasks .count → jobAt (freshOf table .tasks) (freshOf table .jobs) i .run .0 ≡ 0
   unfolding jobAt freshState
-  not-run i h = ap (λ (c : Cycles). c .0) (run-fresh i (le-trans h (fresh-sound .tasks-most)))
+  not-run i h = ap (λ (c : Cycles). c .0) (run-fresh i (le-trans h (fresh-right .few)))
 
   not-over : (i : ℕ) → i < freshOf table .tasks .count → jobAt (freshOf table .tasks) (freshOf table .jobs) i .over ≡ false
   unfolding jobAt freshState
-  not-over i h = over-fresh i (le-trans h (fresh-sound .tasks-most))
+  not-over i h = over-fresh i (le-trans h (fresh-right .few))
 
   room-fresh : (d i : ℕ) → i < freshOf table .tasks .count → owing (freshOf table) (freshOf table .jobs) d i ≡ rooms (freshOf table) (freshOf table .jobs) 0 d i
   unfolding freshState
   room-fresh d i h =
       let j : Job = jobAt (freshOf table .tasks) (freshOf table .jobs) i in
       fresh-room (freshOf table .tasks .great .0) 0 d j
-      (job-whole (freshOf table) fresh-sound (freshOf table .jobs) i h) (first-deadline j) (not-run i h) (not-over i h)
+      (job-whole (freshOf table) fresh-right (freshOf table .jobs) i h) (first-deadline j) (not-run i h) (not-over i h)
 
   fresh-is-covered : Covered (freshOf table)
   unfolding freshState
@@ -80,23 +97,27 @@ module _ (table : Table) (e : started table .number ≡ 0) where
   unfolding freshState freshTally
   none-late-yet = rw (started-is table e)
 
-pub fresh-covered : FreshIsCovered
-unfolding FreshIsCovered
-fresh-covered table e = kept-start table e .covered
+-- a state of a run is on course
+on-course : (s : State) → Kept s → OnCourse s
+on-course s k = record { tasks-right = sound-right s (k .base); covered = k .covered }
+
+pub fresh-on-course : FreshStartIsOnCourse
+unfolding FreshStartIsOnCourse
+fresh-on-course table e = on-course (started table .state) (kept-start table e)
 
 -- an accepted tick from a state that keeps the invariant: the governor's lowest speed is one that carries the load
 module _ (s : State) (call : Call) (k : Kept s) (taken : Taken s call) where
   on-time : OnTime s (speedPlace s) (speedOf s) (call .report)
   unfolding AnyTickThatCarriesTheLoad
   on-time =
-      any-tick s (facts-sound s (k .base .facts)) (k .base .shape) (k .covered) (speedPlace s) (speedOf s) (call .report)
+      any-tick s (on-course s k) (speedPlace s) (speedOf s) (call .report)
       (facts s call taken .lawful) (λ i h r. speed-enough s (k .base .facts))
 
   pub kept-over : OverAtRelease s (speedOf s) (call .report)
   kept-over = on-time .over-at-release
 
   pub kept-next : Kept (next s call)
-  kept-next = record { base = sound-next s call (k .base) taken; covered = on-time .covered }
+  kept-next = record { base = sound-next s call (k .base) taken; covered = on-time .stays .covered }
 
   step-over : OverAtRelease (stepOf s call .before) (stepOf s call .speed) (stepOf s call .report)
   unfolding stepOf

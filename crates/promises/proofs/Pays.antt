@@ -13,7 +13,7 @@ use Rattle.rules.specs.declared.Job.{Job}
 use Rattle.rules.specs.declared.Settling.{Settling}
 use Rattle.rules.specs.declared.State.{State}
 use Rattle.rules.specs.Limits.{mostTasks}
-use Rattle.rules.specs.State.{Shaped, periodAt, jobAt}
+use Rattle.rules.specs.State.{periodAt, jobAt}
 use Rattle.rules.specs.Load.{deadline}
 use Rattle.rules.specs.Choice.{deadlineAt, readyAt, orderOf}
 use Rattle.rules.specs.Settlement.{allowed, granted, settleAt, settleAll, allAllowed, atTickStart, settled}
@@ -22,10 +22,10 @@ use Rattle.rules.proofs.Sorted.{by-deadline}
 use Rattle.rules.proofs.Shares.{settledJob, granted-left}
 use Rattle.rules.proofs.Settles.{Settles, job-here, job-elsewhere, first-below, first-ready, settles-job}
 use Rattle.rules.proofs.Keeps.{settles-start}
-use Rattle.rules.proofs.Soundness.{Sound}
 use Rattle.promises.specs.Runs.{sumTo}
+use Rattle.promises.specs.NeverLate.{TasksRight}
 use Rattle.promises.proofs.Sums.{sum-zero, sum-change}
-use Rattle.promises.proofs.Books.{owes, room, over-owes, later-owes, later-room}
+use Rattle.promises.proofs.Books.{right-jobs, owes, room, over-owes, later-owes, later-room}
 use Rattle.promises.proofs.Levels.{LevelFirst, level-rest, level-none, upto-first, order-has, mem-rest}
 use Rattle.promises.proofs.OneJob.{left-over, due-pays}
 
@@ -168,18 +168,18 @@ module _ (ts : Tasks) (js : Jobs) (speed : ℕ) (report : List ℕ) (most : ts .
       (level-rest due i o first) (covers-rest i o sofar v c) (still-enough i o sofar v one-allowed first c h)
 
 -- a tick of a state, settled in the order of rule 3
-module _ (s : State) (f : Sound s) (shape : Shaped s) (speed : ℕ) (report : List ℕ) (lawful : allAllowed (s .tasks) report (orderOf s) (atTickStart (s .jobs) speed) ≡ true) (d : ℕ) where
+module _ (s : State) (r : TasksRight s) (speed : ℕ) (report : List ℕ) (lawful : allAllowed (s .tasks) report (orderOf s) (atTickStart (s .jobs) speed) ≡ true) (d : ℕ) where
   -- the tasks due by d come first in the order, and it has every ready one of them
-  due-first : LevelFirst (due (s .tasks) (s .jobs) speed report (f .tasks-most) (f .period-some) (s .done .0) d) (orderOf s)
+  due-first : LevelFirst (due (s .tasks) (s .jobs) speed report (r .few) (r .period-some) (s .done .0) d) (orderOf s)
   unfolding due deadlineAt
   due-first = upto-first (deadlineAt s) d (orderOf s) (by-deadline s)
 
-  all-covered : Covers (s .tasks) (s .jobs) speed report (f .tasks-most) (f .period-some) (s .done .0) d (orderOf s) (s .jobs)
+  all-covered : Covers (s .tasks) (s .jobs) speed report (r .few) (r .period-some) (s .done .0) d (orderOf s) (s .jobs)
   unfolding Covers orderOf readyAt
   all-covered k l unfinished e = order-has (deadlineAt s) (readyAt s) (s .tasks .count) k l (ap not unfinished)
 
   pub settled-pays : owedBy (s .tasks) (s .done .0) d (s .jobs) ≤ roomBy (s .tasks) (s .done .0) d (s .jobs) + s .tasks .great .0 * speed → owedBy (s .tasks) (s .done .0) d (settled s speed report .jobs) ≤ roomBy (s .tasks) (s .done .0) d (settled s speed report .jobs)
   unfolding Enough settled atTickStart
   settled-pays h =
-      settle-pays (s .tasks) (s .jobs) speed report (f .tasks-most) (f .period-some) (s .done .0) d (orderOf s) (atTickStart (s .jobs) speed)
-      (settles-start s f shape speed) lawful due-first (λ more. all-covered) h
+      settle-pays (s .tasks) (s .jobs) speed report (r .few) (r .period-some) (s .done .0) d (orderOf s) (atTickStart (s .jobs) speed)
+      (settles-start s (right-jobs s r) speed) lawful due-first (λ more. all-covered) h

@@ -24,7 +24,7 @@ use Rattle.rules.proofs.Stores.{withRun}
 use Rattle.rules.proofs.Places.{run-below, run-most}
 use Rattle.rules.proofs.Shares.{settledJob, granted-right}
 use Rattle.rules.proofs.Settles.{Settles}
-use Rattle.rules.proofs.Keeps.{settles-start}
+use Rattle.rules.proofs.Keeps.{jobs-right, settles-start}
 use Rattle.rules.proofs.Soundness.{Sound}
 use Rattle.promises.specs.Runs.{sumTo}
 use Rattle.promises.proofs.Sums.{sum-none, sum-last, sum-same}
@@ -144,7 +144,7 @@ module _ (s : State) (f : Sound s) (shape : Shaped s) (speed : ℕ) (report : Li
   all-allowed = both-right (overEntriesZero (s .tasks) (s .jobs) report) (allAllowed (s .tasks) report (orderOf s) start) lawful
 
   begun : Settles (s .tasks) (s .jobs) (s .tasks .count) speed (orderOf s) start
-  begun = settles-start s f shape speed
+  begun = settles-start s (jobs-right s f shape) speed
 
   no-grant-yet : (i : ℕ) → i < s .tasks .count → grantAt start i ≡ 0
   unfolding atTickStart

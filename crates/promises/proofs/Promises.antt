@@ -1,16 +1,16 @@
 -- The theorems, one for each statement of specs/.
-use Rattle.promises.specs.NeverLate.{NeverLateInAnyRun, FreshIsCovered, AnyTickThatCarriesTheLoad}
+use Rattle.promises.specs.NeverLate.{NeverLateInAnyRun, FreshStartIsOnCourse, AnyTickThatCarriesTheLoad}
 use Rattle.promises.specs.ExactCycles.{ExactlyTheCycles}
 use Rattle.promises.specs.TurnedAway.{TurnedAwayForLoad}
-use Rattle.promises.specs.PaperTest.{Figure1, Figure4, LowestSpeedIsTold, EarliestDeadlineIsTold}
+use Rattle.promises.specs.PaperTest.{Figure1, StartTestsFigure1, Figure4, LowestSpeedIsTold, EarliestDeadlineIsTold}
 use Rattle.promises.specs.Counts.{CountsComeFromTheGrants}
 use Rattle.promises.specs.StaysSound.{EveryRunStaysSound}
 use Rattle.promises.specs.EitherSide.{EitherSideOfTheLine}
 use Rattle.promises.proofs.Invariant.{Kept}
-use Rattle.promises.proofs.OnTimeProof.{fresh-covered, any-tick, kept-start, kept-next, kept-over, in-any-run}
+use Rattle.promises.proofs.OnTimeProof.{fresh-on-course, any-tick, kept-start, kept-next, kept-over, in-any-run}
 use Rattle.promises.proofs.ExactProof.{exactly-the-cycles}
 use Rattle.promises.proofs.Starves.{some-job-starves}
-use Rattle.promises.proofs.Fractions.{figure-1, figure-4}
+use Rattle.promises.proofs.Fractions.{figure-1, start-tests, figure-4}
 use Rattle.promises.proofs.NowTells.{lowest-told, earliest-told}
 use Rattle.promises.proofs.CountsProof.{counts-from-grants}
 use Rattle.promises.proofs.SoundRuns.{every-run-sound}
@@ -20,8 +20,8 @@ use Rattle.promises.proofs.EitherSideRows.{every-row}
 pub never-late : NeverLateInAnyRun
 never-late = in-any-run
 
-pub fresh-is-covered : FreshIsCovered
-fresh-is-covered = fresh-covered
+pub fresh-start : FreshStartIsOnCourse
+fresh-start = fresh-on-course
 
 pub any-tick-on-time : AnyTickThatCarriesTheLoad
 any-tick-on-time = any-tick
@@ -37,6 +37,9 @@ turned-away = some-job-starves
 -- Demand 2: the paper's tests, at every common multiple of the periods; the lowest speed that carries the load; the earliest deadline.
 pub paper-test-1 : Figure1
 paper-test-1 = figure-1
+
+pub start-by-paper : StartTestsFigure1
+start-by-paper = start-tests
 
 pub paper-test-4 : Figure4
 paper-test-4 = figure-4

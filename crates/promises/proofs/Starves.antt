@@ -29,12 +29,12 @@ last-holds true answer l e = refl
 last-holds false answer l e = absurd (ne-of-lt l e)
 
 -- what 8 says of a table: as many reserves as periods, no period of 0, and rule 7's sum above top speed x H
-record Overloaded (ps cs ss : List ℕ) : Type 0 where
-  as-many : length cs ≡ length ps
-  period-some : (i : ℕ) → i < length ps → 0 < getD ps i 0
-  too-much : topOf ss * greatOf ps < fullLoad (greatOf ps) ps cs
+pub record Overloaded (ps cs ss : List ℕ) : Type 0 where
+  pub as-many : length cs ≡ length ps
+  pub period-some : (i : ℕ) → i < length ps → 0 < getD ps i 0
+  pub too-much : topOf ss * greatOf ps < fullLoad (greatOf ps) ps cs
 
-overloaded : (ps cs ss vs : List ℕ) → startNumber ps cs ss vs ≡ 8 → Overloaded ps cs ss
+pub overloaded : (ps cs ss vs : List ℕ) → startNumber ps cs ss vs ≡ 8 → Overloaded ps cs ss
 unfolding startNumber admitted
 overloaded ps cs ss vs e₁ =
     let e₂ = rows-after _ 1 8 _ (ne-of-lt (omega arith)) e₁ in

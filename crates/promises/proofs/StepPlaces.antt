@@ -18,7 +18,7 @@ use Rattle.rules.proofs.Lists.{getD-upTo}
 use Rattle.rules.proofs.Stores.{withRun}
 use Rattle.rules.proofs.Releases.{afterRelease}
 use Rattle.rules.proofs.Deadlines.{due-after, release-due, due-stays, due-moves}
-use Rattle.rules.proofs.Keeps.{job-after, entries-allowed}
+use Rattle.rules.proofs.Keeps.{jobs-right, job-after, entries-allowed}
 use Rattle.promises.specs.Runs.{Call, Step, stepOf, grantsTo, entriesOf}
 use Rattle.promises.proofs.RunLaws.{outcome, next, Taken, facts, step-grants}
 use Rattle.promises.proofs.Portions.{Portion, share, portion}
@@ -83,7 +83,7 @@ module _ (s : State) (call : Call) (shape : Shaped s) (e : Taken s call) (i : �
   -- the job after the tick, a fresh one where the task is released then
   job-next : jobAt (s .tasks) (next s call .jobs) i ≡ afterRelease (s .done .0 + 1) period settledThen
   job-next =
-      job-after s (facts s call e .is-sound) shape (speedOf s) (call .report)
+      job-after s (jobs-right s (facts s call e .is-sound) shape) (speedOf s) (call .report)
       (entries-allowed s (call .report) (length (call .grants)) shape e) (speedPlace s) i h
 
   -- the run's own lists begin with the task's grant and its entry

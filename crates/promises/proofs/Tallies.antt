@@ -22,7 +22,7 @@ use Rattle.rules.proofs.Lists.{getD-upTo}
 use Rattle.rules.proofs.Totals.{total-places}
 use Rattle.rules.proofs.Orders.{every-mono, order-below}
 use Rattle.rules.proofs.Settles.{Settles, grantsSum}
-use Rattle.rules.proofs.Keeps.{settles, entries-allowed}
+use Rattle.rules.proofs.Keeps.{jobs-right, settles, entries-allowed}
 use Rattle.rules.proofs.Loads.{place-below, speed-of-at, speed-order}
 use Rattle.promises.specs.Runs.{Call, Step, Each, stepOf, steps, after, granted, sumTo}
 use Rattle.promises.specs.Counts.{grantedAt}
@@ -48,7 +48,7 @@ above-absent n k l = every-mono (λ i. ltb i n) (λ i. not (eqb i k)) differs
 module _ (s : State) (call : Call) (kept : SoundAndShaped s) (e : Taken s call) where
   settles-so : Settles (s .tasks) (s .jobs) (s .tasks .count) (speedOf s) [] (outcome s call)
   settles-so =
-      settles s (kept .facts) (kept .shape) (speedOf s) (call .report)
+      settles s (jobs-right s (kept .facts) (kept .shape)) (speedOf s) (call .report)
       (entries-allowed s (call .report) (length (call .grants)) (kept .shape) e)
 
   -- the places past the tasks get nothing

@@ -11,21 +11,20 @@ use Rattle.rules.specs.declared.Jobs.{Jobs}
 use Rattle.rules.specs.declared.Job.{Job}
 use Rattle.rules.specs.declared.Releasing.{Releasing}
 use Rattle.rules.specs.declared.State.{State}
-use Rattle.rules.specs.State.{Shaped, periodAt, jobAt, jobsOf}
+use Rattle.rules.specs.State.{periodAt, jobAt, jobsOf}
 use Rattle.rules.specs.Load.{deadline, useOf, load}
 use Rattle.rules.specs.Choice.{readyAt, orderOf, loadOf}
 use Rattle.rules.specs.Settlement.{allAllowed, atTickStart, settled}
 use Rattle.rules.specs.Counting.{counted, nextOf}
 use Rattle.rules.proofs.Totals.{total-places}
-use Rattle.rules.proofs.Soundness.{Sound}
 use Rattle.rules.proofs.GreatLaws.{great-whole, great-some}
 use Rattle.rules.proofs.Settles.{Settles}
 use Rattle.rules.proofs.Releases.{afterRelease, lates, releases-late-is}
-use Rattle.rules.proofs.Keeps.{settles, job-after}
+use Rattle.rules.proofs.Keeps.{settles, job-after, jobs-after}
 use Rattle.promises.specs.Runs.{sumTo}
-use Rattle.promises.specs.NeverLate.{OverAtRelease, owedAt, roomAt, Covered}
+use Rattle.promises.specs.NeverLate.{OverAtRelease, owedAt, roomAt, Covered, TasksRight}
 use Rattle.promises.proofs.Sums.{sum-zero, zero-sum, sum-same, sum-mono, sum-add, sum-below}
-use Rattle.promises.proofs.Books.{owes, room, owed-is, room-is}
+use Rattle.promises.proofs.Books.{right-jobs, owes, room, owed-is, room-is}
 use Rattle.promises.proofs.Renews.{owing-open, room-none, tick-spends, owes-none-over, release-renews}
 use Rattle.promises.proofs.Pays.{settled-pays}
 
@@ -63,14 +62,14 @@ module _ (s : State) where
   is-covered h d = omega (arith, h d, owed-sum d, room-sum d)
 
 -- the period of a job is that of its task, whatever it has run
-module _ (s : State) (f : Sound s) (js : Jobs) (i : ℕ) (h : i < s .tasks .count) where
+module _ (s : State) (r : TasksRight s) (js : Jobs) (i : ℕ) (h : i < s .tasks .count) where
   period-pos : 1 ≤ jobAt (s .tasks) js i .period .0
   unfolding jobAt periodAt
-  period-pos = f .period-some i h
+  period-pos = r .period-some i h
 
   pub job-whole : s .tasks .great .0 / jobAt (s .tasks) js i .period .0 * jobAt (s .tasks) js i .period .0 ≡ s .tasks .great .0
   unfolding jobAt periodAt
-  job-whole = great-whole s f i h
+  job-whole = great-whole s (r .great-is) i h
 
 -- the load is the sum of what one tick spends
 load-sum : (s : State) → loadOf s ≡ sumTo (s .tasks .count) (spends s)
@@ -95,7 +94,7 @@ abbrev pub later : State → ℕ → List ℕ → ℕ → State
 later s speed report place = nextOf s place (settled s speed report)
 
 -- a tick at a speed that carries the load wherever a job is ready
-module _ (s : State) (f : Sound s) (shape : Shaped s) (covered : Covered s) (speed : ℕ) (report : List ℕ)
+module _ (s : State) (r : TasksRight s) (covered : Covered s) (speed : ℕ) (report : List ℕ)
     (lawful : allAllowed (s .tasks) report (orderOf s) (atTickStart (s .jobs) speed) ≡ true)
     (fast : (i : ℕ) → i < s .tasks .count → readyAt s i ≡ true → loadOf s ≤ speed * s .tasks .great .0) where
   -- where something is owed a job is ready, so what is owed is at most the room from the next tick on and the tick's cycles
@@ -112,7 +111,7 @@ module _ (s : State) (f : Sound s) (shape : Shaped s) (covered : Covered s) (spe
 
   -- so the settled jobs owe no more than that room,
   settled-in-order : (d : ℕ) → allOwing s (ran s speed report) d ≤ allRooms s (ran s speed report) (s .done .0 + 1) d
-  settled-in-order d = settled-pays s f shape speed report lawful d (enough d)
+  settled-in-order d = settled-pays s r speed report lawful d (enough d)
 
   -- and nothing that is due at the next tick is owed, since no room is left for it:
   due-paid : (i : ℕ) → i < s .tasks .count → owing s (ran s speed report) (s .done .0 + 1) i ≡ 0
@@ -127,13 +126,13 @@ module _ (s : State) (f : Sound s) (shape : Shaped s) (covered : Covered s) (spe
 
   -- the job of every task that is released then is over,
   done-so : Settles (s .tasks) (s .jobs) (s .tasks .count) speed [] (settled s speed report)
-  done-so = settles s f shape speed report lawful
+  done-so = settles s (right-jobs s r) speed report lawful
 
   pub over-then : OverAtRelease s speed report
   unfolding OverAtRelease jobAt periodAt
   over-then i h e =
-      owes-none-over (s .done .0) (jobAt (s .tasks) (ran s speed report) i) (period-pos s f (ran s speed report) i h)
-      (s .tasks .great .0) (great-some s f) (done-so .right i h) e (due-paid i h)
+      owes-none-over (s .done .0) (jobAt (s .tasks) (ran s speed report) i) (period-pos s r (ran s speed report) i h)
+      (s .tasks .great .0) (great-some s (r .great-is) (r .period-some)) (done-so .right i h) e (due-paid i h)
 
   -- so none is late,
   none-late : (i : ℕ) → i < s .tasks .count → lates (s .tasks) (s .done .0 + 1) (record { jobs = ran s speed report; late = s .tally .late }) i ≡ 0
@@ -156,7 +155,7 @@ module _ (s : State) (f : Sound s) (shape : Shaped s) (covered : Covered s) (spe
     job-then : (i : ℕ) → i < s .tasks .count → jobAt (s .tasks) (later s speed report place .jobs) i
         ≡ afterRelease (s .done .0 + 1) (jobAt (s .tasks) (ran s speed report) i .period .0) (jobAt (s .tasks) (ran s speed report) i)
     unfolding jobAt periodAt
-    job-then i h = job-after s f shape speed report lawful place i h
+    job-then i h = job-after s (right-jobs s r) speed report lawful place i h
 
     renews-then : (d i : ℕ) → i < s .tasks .count
         → owing (later s speed report place) (later s speed report place .jobs) d i + rooms s (ran s speed report) (s .done .0 + 1) d i
@@ -165,7 +164,7 @@ module _ (s : State) (f : Sound s) (shape : Shaped s) (covered : Covered s) (spe
     renews-then d i h =
         rw (job-then i h)
         (release-renews (s .tasks .great .0) (s .done .0) d (jobAt (s .tasks) (ran s speed report) i)
-        (period-pos s f (ran s speed report) i h) (job-whole s f (ran s speed report) i h))
+        (period-pos s r (ran s speed report) i h) (job-whole s r (ran s speed report) i h))
 
     pub covered-then : Covered (later s speed report place)
     unfolding nextOf
@@ -182,3 +181,18 @@ module _ (s : State) (f : Sound s) (shape : Shaped s) (covered : Covered s) (spe
           sum-add (rooms s′ (s′ .jobs) t′ d) (owing s js d) n,
           sum-mono (λ i. owing s′ (s′ .jobs) d i + rooms s js t′ d i) (λ i. rooms s′ (s′ .jobs) t′ d i + owing s js d i) n (renews-then d),
         ))
+
+    -- the tasks are the same, and their jobs are right again
+    pub right-then : TasksRight (later s speed report place)
+    unfolding nextOf
+    right-then =
+        let jobs = jobs-after s (right-jobs s r) speed report lawful (r .reserve-some) place in
+        record {
+          few = r .few;
+          period-some = r .period-some;
+          reserve-some = r .reserve-some;
+          great-is = r .great-is;
+          run-right = jobs .right;
+          runs = jobs .runs;
+          marks = jobs .marks;
+        }

@@ -33,7 +33,7 @@ pub record CountsAre (table : Table) (calls : List Call) (xs : List Step) : Type
   -- rule 5: each speed's count, and idle
   pub counts : (k : ℕ) → k < length (table .speeds) → countAt (after (started table .state) calls .tally) k ≡ grantedAt (getD (table .speeds) k 0) xs
   pub idle : after (started table .state) calls .tally .idle .0 ≡ total (λ x. x .speed - granted x) xs
-  -- rule 4: cut, task by task and job by job; a task has at most as many jobs as there are ticks
+  -- rule 4: cut, task by task and job by job; a job that has had a tick is among the first length xs
   pub cut : after (started table .state) calls .tally .cut ≡ sumTo (length (table .periods)) (λ i. sumTo (length xs) (λ job. cutJob (getD (table .reserves) i 0) (getD (table .periods) i 0) job (grantsTo i xs) (entriesOf i xs)))
   -- rule 6: energy
   pub energy : energyOf (after (started table .state) calls) ≡ record { number = 0; energy = total (λ x. granted x * voltsBeside table (x .speed) * voltsBeside table (x .speed)) xs }

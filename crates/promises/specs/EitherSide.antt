@@ -1,10 +1,11 @@
 -- Document 01, "Either side of the line": (a) to (l), one list of rows and one test over it.
 use Prim.Native.Nat.{ℕ}
 use mathlib.Core.Path.{_≡_}
-use mathlib.Core.Bool.{true}
+use mathlib.Core.Bool.{true, cond}
 use mathlib.Core.List.{List, [], _∷_, map}
 use lib.Dec.{eqb}
 use lib.ListN.{take}
+use Rattle.rules.specs.declared.State.{State}
 use Rattle.rules.specs.Words.{every}
 use Rattle.rules.specs.Choice.{loadOf}
 use Rattle.rules.specs.Admission.{greatOf}
@@ -32,10 +33,13 @@ reports =
     ∷ (0 ∷ 0 ∷ 0 ∷ [])
     ∷ []
 
--- the load at tick t of that run
+-- the state at tick t of that run, and its load where t ticks were accepted
+unfoldable pub stateAt : ℕ → State
+stateAt t =
+    after (started paperTable .state) (map (λ r. record { report = r; grants = 0 ∷ 0 ∷ 0 ∷ [] }) (take t reports))
+
 unfoldable pub loadAt : ℕ → ℕ
-loadAt t =
-    loadOf (after (started paperTable .state) (map (λ r. record { report = r; grants = 0 ∷ 0 ∷ 0 ∷ [] }) (take t reports)))
+loadAt t = cond (eqb (stateAt t .done .0) t) (loadOf (stateAt t)) 0
 
 -- start's number for a table with one speed, at 1 tenth of a volt
 unfoldable pub numberOf : List ℕ → List ℕ → ℕ → ℕ

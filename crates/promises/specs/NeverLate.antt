@@ -4,16 +4,19 @@ use mathlib.Core.Path.{_≡_}
 use mathlib.Core.Bool.{true, cond, _&&_}
 use mathlib.Core.List.{List}
 use lib.Dec.{eqb, leb}
+use lib.ListN.{length}
 use Rattle.rules.specs.declared.State.{State}
-use Rattle.rules.specs.State.{Shaped, periodAt, jobAt}
+use Rattle.rules.specs.Limits.{mostTasks}
+use Rattle.rules.specs.State.{periodAt, reserveAt, jobAt, periodsOf}
 use Rattle.rules.specs.Load.{useOf}
 use Rattle.rules.specs.Choice.{deadlineAt, readyAt, loadOf}
 use Rattle.rules.specs.Settlement.{remaining, settled, keepsRule4}
 use Rattle.rules.specs.Counting.{nextOf}
-use Rattle.rules.specs.Numbers.{sound}
+use Rattle.rules.specs.Admission.{greatOf}
+use Rattle.rules.specs.Numbers.{runRight}
 use Rattle.promises.specs.Runs.{Table, Call, Step, Each, started, after, steps, sumTo}
 
--- Rule 5. Once a tick at a speed is settled, the job of every task whose period divides the new t, and which is released then, is over.
+-- Rule 5. Once a tick at a speed is settled, the job of every task whose period divides the new t, and so is released then, is over.
 unfoldable pub OverAtRelease : State → ℕ → List ℕ → Type 0
 OverAtRelease s speed report =
     (i : ℕ) → i < s .tasks .count → eqb ((s .done .0 + 1) % periodAt (s .tasks) i) 0 ≡ true
@@ -43,19 +46,35 @@ roomAt s d i =
 unfoldable pub Covered : State → Type 0
 Covered s = (d : ℕ) → sumTo (s .tasks .count) (owedAt s d) ≤ sumTo (s .tasks .count) (roomAt s d)
 
--- A fresh start is covered. And ANY tick that keeps rule 4, whose speed carries the load wherever a job is ready, releases no job late and stays
--- covered, at whatever place its cycles are counted: the governor's lowest speed is one such.
-unfoldable pub FreshIsCovered : Type 0
-FreshIsCovered = (table : Table) → started table .number ≡ 0 → Covered (started table .state)
+-- What the step below asks of a state beside that, and keeps: at most 16 tasks, no period and no reserve 0, H right, a place for each job, and each run count
+-- right. It asks nothing of the speeds, the counts or t.
+pub record TasksRight (s : State) : Type 0 where
+  pub few : s .tasks .count ≤ mostTasks
+  pub period-some : (i : ℕ) → i < s .tasks .count → 1 ≤ periodAt (s .tasks) i
+  pub reserve-some : (i : ℕ) → i < s .tasks .count → 1 ≤ reserveAt (s .tasks) i
+  pub great-is : s .tasks .great .0 ≡ greatOf (periodsOf (s .tasks))
+  pub run-right : (i : ℕ) → i < s .tasks .count → runRight (jobAt (s .tasks) (s .jobs) i) ≡ true
+  pub runs : length (s .jobs .run) ≡ mostTasks
+  pub marks : length (s .jobs .over) ≡ mostTasks
 
+-- A fresh start has both.
+pub record OnCourse (s : State) : Type 0 where
+  pub tasks-right : TasksRight s
+  pub covered : Covered s
+
+unfoldable pub FreshStartIsOnCourse : Type 0
+FreshStartIsOnCourse = (table : Table) → started table .number ≡ 0 → OnCourse (started table .state)
+
+-- And ANY tick that keeps rule 4, whose speed carries the load wherever a job is ready, counts no job as late and keeps both, at whatever place its cycles
+-- are counted: the governor's lowest speed is one such.
 pub record OnTime (s : State) (place speed : ℕ) (report : List ℕ) : Type 0 where
   pub over-at-release : OverAtRelease s speed report
   pub none-late : nextOf s place (settled s speed report) .tally .late ≡ s .tally .late
-  pub covered : Covered (nextOf s place (settled s speed report))
+  pub stays : OnCourse (nextOf s place (settled s speed report))
 
 unfoldable pub AnyTickThatCarriesTheLoad : Type 0
 AnyTickThatCarriesTheLoad =
-    (s : State) → sound s ≡ true → Shaped s → Covered s
+    (s : State) → OnCourse s
     → (place speed : ℕ) (report : List ℕ) → keepsRule4 s speed report ≡ true
     → ((i : ℕ) → i < s .tasks .count → readyAt s i ≡ true → loadOf s ≤ speed * s .tasks .great .0)
     → OnTime s place speed report

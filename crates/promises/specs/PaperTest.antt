@@ -1,29 +1,36 @@
 -- Demand 2: admission, choice of task and choice of speed "equal the rules of Figures 1 and 4 of that paper for EDF": "the lowest listed speed that carries the load, compared exactly, with no rounding".
-use Prim.Native.Nat.{ℕ, _+_, _*_, _%_, _≤_, _<_}
+use Prim.Native.Nat.{ℕ, _+_, _*_, _≤_, _<_, _∣_}
 use mathlib.Core.Path.{_≡_}
 use mathlib.Core.Bool.{true, false}
 use mathlib.Core.List.{List}
 use mathlib.Core.Logic.{_↔_}
-use lib.Dec.{eqb}
+use lib.ListN.{length, getD}
 use Rattle.rules.specs.declared.State.{State}
-use Rattle.rules.specs.Words.{every}
-use Rattle.rules.specs.State.{jobsOf, periodsOf, speedAt}
+use Rattle.rules.specs.State.{jobsOf, periodsOf, speedAt, topOf}
 use Rattle.rules.specs.Load.{load}
 use Rattle.rules.specs.Choice.{deadlineAt, readyAt, taskOf, dueOf, loadOf}
 use Rattle.rules.specs.Admission.{greatOf, fullLoad}
 use Rattle.rules.specs.Numbers.{sound}
 use Rattle.rules.specs.Calls.{nowOf}
+use Rattle.promises.specs.Runs.{Table, started}
 
--- a common multiple of the periods that is not 0 (so that no period is 0)
+-- a common multiple of the periods that is not 0
 pub record CommonMultiple (multiple : ℕ) (periods : List ℕ) : Type 0 where
   pub some : 0 < multiple
-  pub of-each : every (λ p. eqb (multiple % p) 0) periods ≡ true
+  pub of-each : (k : ℕ) → k < length periods → getD periods k 0 ∣ multiple
 
--- Figure 1, EDF, and rule 7: C1 / P1 + .. + Cn / Pn is at most the speed. Both sides times any common multiple of the periods, and not only times H, it is the test that admits a table.
+-- Figure 1, EDF: C1 / P1 + .. + Cn / Pn is at most the speed. Both sides times any common multiple of the periods, it is the same test as times H.
 unfoldable pub Figure1 : Type 0
 Figure1 =
     (periods reserves : List ℕ) (multiple : ℕ) → CommonMultiple multiple periods
     → (s : ℕ) → (fullLoad multiple periods reserves ≤ s * multiple) ↔ (fullLoad (greatOf periods) periods reserves ≤ s * greatOf periods)
+
+-- Rule 7. So start tests by it: the test holds of a table that start accepts, at top speed, and fails of one that it turns away for load.
+unfoldable pub StartTestsFigure1 : Type 0
+StartTestsFigure1 =
+    (table : Table) (multiple : ℕ) → CommonMultiple multiple (table .periods)
+    → (started table .number ≡ 0 → fullLoad multiple (table .periods) (table .reserves) ≤ topOf (table .speeds) * multiple)
+    × (started table .number ≡ 8 → topOf (table .speeds) * multiple < fullLoad multiple (table .periods) (table .reserves))
 
 -- Figure 4, and rule 2: U1 + .. + Un is at most the speed, where U is use / P: the same of the load of a state.
 unfoldable pub Figure4 : Type 0

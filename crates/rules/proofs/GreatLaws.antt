@@ -8,7 +8,7 @@ use Rattle.rules.specs.declared.State.{State}
 use Rattle.rules.specs.State.{periodAt, periodsOf}
 use Rattle.rules.specs.Admission.{greatOf}
 use Rattle.rules.proofs.Lists.{getD-upTo}
-use Rattle.rules.proofs.Soundness.{Sound, length-periods}
+use Rattle.rules.proofs.Soundness.{length-periods}
 
 module _ (s : State) where
   period-listed : (i : ℕ) → i < s .tasks .count → getD (periodsOf (s .tasks)) i 0 ≡ periodAt (s .tasks) i
@@ -20,19 +20,19 @@ module _ (s : State) where
   unfolding greatOf
   period-divides i h = rw (period-listed i h) at (all-each (periodsOf (s .tasks)) i (rw (length-periods s) h))
 
-  -- of a sound state, whose H it is
-  module _ (f : Sound s) where
+  -- of a state whose H it is
+  module _ (right : s .tasks .great .0 ≡ greatOf (periodsOf (s .tasks))) where
     pub divides-great : (i : ℕ) → i < s .tasks .count → periodAt (s .tasks) i ∣ s .tasks .great .0
-    divides-great i h = subst (λ (x : ℕ). periodAt (s .tasks) i ∣ x) (sym (f .great-is)) (period-divides i h)
+    divides-great i h = subst (λ (x : ℕ). periodAt (s .tasks) i ∣ x) (sym right) (period-divides i h)
 
     pub great-whole : (i : ℕ) → i < s .tasks .count → s .tasks .great .0 / periodAt (s .tasks) i * periodAt (s .tasks) i ≡ s .tasks .great .0
     great-whole i h = div-mul-cancel (periodAt (s .tasks) i) (divides-great i h)
 
-    pub great-some : 1 ≤ s .tasks .great .0
+    pub great-some : ((i : ℕ) → i < s .tasks .count → 1 ≤ periodAt (s .tasks) i) → 1 ≤ s .tasks .great .0
     unfolding greatOf
-    great-some = rw (f .great-is) (all-pos (periodsOf (s .tasks)) some)
+    great-some period-some = rw right (all-pos (periodsOf (s .tasks)) some)
       where
         some : (k : ℕ) → k < length (periodsOf (s .tasks)) → 1 ≤ getD (periodsOf (s .tasks)) k 0
         some k l =
             let h : k < s .tasks .count = rw (length-periods s) at l in
-            rw (period-listed k h) (f .period-some k h)
+            rw (period-listed k h) (period-some k h)

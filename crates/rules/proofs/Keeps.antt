@@ -6,7 +6,7 @@ use Prim.Native.Nat.{ℕ, _+_, _*_, _%_, _≤_, _<_}
 use native.Mathlib.Nat.{add-mul}
 use native.Mathlib.Omega.{arith}
 use lib.Dec.{eqb}
-use lib.ListN.{getD, length-set}
+use lib.ListN.{length, getD, length-set}
 use lib.Seq.{getD-set-other}
 use borrow.Author.Tests.{lt-ltb}
 use Rattle.units.specs.Units.{cycles}
@@ -15,7 +15,7 @@ use Rattle.rules.specs.declared.Job.{Job}
 use Rattle.rules.specs.declared.State.{State}
 use Rattle.rules.specs.declared.Ticked.{Ticked}
 use Rattle.rules.specs.Words.{total}
-use Rattle.rules.specs.Limits.{mostSpeeds, mostTicks}
+use Rattle.rules.specs.Limits.{mostTasks, mostSpeeds, mostTicks}
 use Rattle.rules.specs.State.{Shaped, periodAt, reserveAt, speedAt, voltsAt, countAt, jobAt, speedsOf, topOf}
 use Rattle.rules.specs.Choice.{readyAt, orderOf, speedPlace, speedOf}
 use Rattle.rules.specs.Settlement.{atTickStart, settled, allAllowed, overEntriesZero, keepsRule4}
@@ -41,17 +41,27 @@ released-right t p j some r = go (eqb (t % p) 0)
     go true = lt-ltb 0 (j .reserve .0) some
     go false = r
 
+-- what a settlement asks of the jobs of a state: each has its place, and its run count is right
+pub record JobsRight (s : State) : Type 0 where
+  pub few : s .tasks .count ≤ mostTasks
+  pub right : (i : ℕ) → i < s .tasks .count → runRight (jobAt (s .tasks) (s .jobs) i) ≡ true
+  pub runs : length (s .jobs .run) ≡ mostTasks
+  pub marks : length (s .jobs .over) ≡ mostTasks
+
+pub jobs-right : (s : State) → Sound s → Shaped s → JobsRight s
+jobs-right s f shape = record { few = f .tasks-most; right = f .run-right; runs = shape .runs; marks = shape .marks }
+
 -- the settlement of a tick: as it begins, with the ready jobs to come, and where it keeps rule 4, as it ends
-module _ (s : State) (f : Sound s) (shape : Shaped s) (speed : ℕ) where
+module _ (s : State) (r : JobsRight s) (speed : ℕ) where
   pub settles-start : Settles (s .tasks) (s .jobs) (s .tasks .count) speed (orderOf s) (atTickStart (s .jobs) speed)
   unfolding orderOf readyAt
   settles-start =
       let n = s .tasks .count in
-      settles-begun (s .tasks) (s .jobs) n speed (orderOf s) (shape .runs) (shape .marks) (f .tasks-most) (f .run-right) (order-ready _ (readyAt s) n) (order-below _ (readyAt s) n) (order-apart _ (readyAt s) n) (order-short _ (readyAt s) n)
+      settles-begun (s .tasks) (s .jobs) n speed (orderOf s) (r .runs) (r .marks) (r .few) (r .right) (order-ready _ (readyAt s) n) (order-below _ (readyAt s) n) (order-apart _ (readyAt s) n) (order-short _ (readyAt s) n)
 
   pub settles : (report : List ℕ) → allAllowed (s .tasks) report (orderOf s) (atTickStart (s .jobs) speed) ≡ true → Settles (s .tasks) (s .jobs) (s .tasks .count) speed [] (settled s speed report)
   unfolding settled
-  settles report a = settles-all (s .tasks) (s .jobs) (s .tasks .count) speed report (orderOf s) (atTickStart (s .jobs) speed) (f .tasks-most) a settles-start
+  settles report a = settles-all (s .tasks) (s .jobs) (s .tasks .count) speed report (orderOf s) (atTickStart (s .jobs) speed) (r .few) a settles-start
 
   -- the job of each task after the tick
   pub job-after : (report : List ℕ) → allAllowed (s .tasks) report (orderOf s) (atTickStart (s .jobs) speed) ≡ true → (place i : ℕ) → i < s .tasks .count → jobAt (s .tasks) (nextOf s place (settled s speed report) .jobs) i ≡ afterRelease (s .done .0 + 1) (periodAt (s .tasks) i) (jobAt (s .tasks) (settled s speed report .jobs) i)
@@ -59,25 +69,34 @@ module _ (s : State) (f : Sound s) (shape : Shaped s) (speed : ℕ) where
   job-after report a place i h =
       let ends = settles report a in
       releases-at (s .tasks) (s .done .0 + 1) _ (s .tasks .count) i
-      (omega (arith, ends .runs, f .tasks-most)) (omega (arith, ends .marks, f .tasks-most)) h
+      (omega (arith, ends .runs, r .few)) (omega (arith, ends .marks, r .few)) h
+
+  -- so the jobs are right after it
+  pub jobs-after : (report : List ℕ) → allAllowed (s .tasks) report (orderOf s) (atTickStart (s .jobs) speed) ≡ true → ((i : ℕ) → i < s .tasks .count → 1 ≤ reserveAt (s .tasks) i) → (place : ℕ) → JobsRight (nextOf s place (settled s speed report))
+  unfolding nextOf
+  jobs-after report a some place =
+      let ends = settles report a in
+      record {
+        few = r .few;
+        right = λ i h. rw (job-after report a place i h) (released-right (s .done .0 + 1) (periodAt (s .tasks) i) (jobAt (s .tasks) (settled s speed report .jobs) i) (asks i h) (ends .right i h));
+        runs = releases-runs (s .tasks) (s .done .0 + 1) _ (s .tasks .count) ∙ ends .runs;
+        marks = releases-marks (s .tasks) (s .done .0 + 1) _ (s .tasks .count) ∙ ends .marks;
+      }
+    where
+      asks : (i : ℕ) → i < s .tasks .count → 1 ≤ jobAt (s .tasks) (settled s speed report .jobs) i .reserve .0
+      asks i h = unfold jobAt reserveAt in some i h
 
 module _ (s : State) (f : Sound s) (shape : Shaped s) (place speed : ℕ) (report : List ℕ) (room : s .done .0 < mostTicks) (listed : place < s .ladder .count) (fast : speed ≤ topOf (speedsOf (s .ladder))) (lawful : allAllowed (s .tasks) report (orderOf s) (atTickStart (s .jobs) speed) ≡ true) where
   done-so : Settles (s .tasks) (s .jobs) (s .tasks .count) speed [] (settled s speed report)
-  done-so = settles s f shape speed report lawful
+  done-so = settles s (jobs-right s f shape) speed report lawful
+
+  jobs-so : JobsRight (nextOf s place (settled s speed report))
+  jobs-so = jobs-after s (jobs-right s f shape) speed report lawful (f .reserve-some) place
 
   -- the job of the places past the tasks
   job-past : (i : ℕ) → s .tasks .count ≤ i → jobAt (s .tasks) (nextOf s place (settled s speed report) .jobs) i ≡ jobAt (s .tasks) (s .jobs) i
   unfolding nextOf
   job-past i h = releases-past (s .tasks) (s .done .0 + 1) _ (s .tasks .count) i h ∙ done-so .others i h
-
-  some-reserve : (i : ℕ) → i < s .tasks .count → 1 ≤ jobAt (s .tasks) (settled s speed report .jobs) i .reserve .0
-  unfolding jobAt reserveAt
-  some-reserve i h = f .reserve-some i h
-
-  run-right-after : (i : ℕ) → i < s .tasks .count → runRight (jobAt (s .tasks) (nextOf s place (settled s speed report) .jobs) i) ≡ true
-  run-right-after i h =
-      rw (job-after s f shape speed report lawful place i h)
-      (released-right (s .done .0 + 1) (periodAt (s .tasks) i) (jobAt (s .tasks) (settled s speed report .jobs) i) (some-reserve i h) (done-so .right i h))
 
   unused-after : (i : ℕ) → s .ladder .count ≤ i → i < mostSpeeds → unusedSpeed (nextOf s place (settled s speed report)) i ≡ true
   unfolding unusedSpeed nextOf counted countAt
@@ -122,7 +141,7 @@ module _ (s : State) (f : Sound s) (shape : Shaped s) (place speed : ℕ) (repor
         great-is = f .great-is;
         great-most = f .great-most;
         admits = f .admits;
-        run-right = run-right-after;
+        run-right = jobs-so .right;
         unused-job = λ i h m. rw (job-past i h) (f .unused-job i h m);
         unused-speed = unused-after;
         done-most = omega (arith, room);
@@ -137,8 +156,8 @@ module _ (s : State) (f : Sound s) (shape : Shaped s) (place speed : ℕ) (repor
       record {
         periods = shape .periods;
         reserves = shape .reserves;
-        runs = releases-runs (s .tasks) (s .done .0 + 1) _ (s .tasks .count) ∙ done-so .runs;
-        marks = releases-marks (s .tasks) (s .done .0 + 1) _ (s .tasks .count) ∙ done-so .marks;
+        runs = jobs-so .runs;
+        marks = jobs-so .marks;
         speeds = shape .speeds;
         volts = shape .volts;
         counts = length-set (s .tally .counts) place _ ∙ shape .counts;
