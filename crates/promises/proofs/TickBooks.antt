@@ -1,4 +1,4 @@
--- A tick whose speed carries the load wherever a job is ready keeps a state covered and releases no job late: the books of one job, summed over the tasks.
+-- A tick whose speed carries the load wherever a job is ready counts no job as late and keeps a state on course: the books of one job, summed over the tasks.
 use mathlib.Core.Path.{_≡_, refl, _∙_}
 use mathlib.Core.Bool.{Bool, true, false, cond}
 use mathlib.Core.List.{List, []}
