@@ -7,6 +7,7 @@ use rules::Job;
 use rules::Jobs;
 use rules::Ladder;
 use rules::Order;
+use rules::Started;
 use rules::State;
 use rules::Tasks;
 use settlement::Settled;
@@ -33,6 +34,11 @@ pub(crate) struct Reads {
 pub(crate) struct Verdicts {
     pub(crate) first: Verdict,
     pub(crate) second: Verdict,
+}
+
+pub(crate) struct Beginnings {
+    pub(crate) first: Started,
+    pub(crate) second: Started,
 }
 
 pub(crate) struct Deadlines {
@@ -98,6 +104,15 @@ pub(crate) fn judge(periods: &[u64], reserves: &[u64], speeds: &[u64], volts: &[
     Verdicts {
         first: admission::judge(periods, reserves, speeds, volts),
         second: admission::judge(periods, reserves, speeds, volts),
+    }
+}
+
+pub(crate) fn start(periods: &[u64], reserves: &[u64], speeds: &[u64], volts: &[u64]) -> Beginnings
+    ensures { λ r. ⌜ r .first ≡ r .second ⌝ }
+{
+    Beginnings {
+        first: starting::start(periods, reserves, speeds, volts),
+        second: starting::start(periods, reserves, speeds, volts),
     }
 }
 

@@ -1,5 +1,3 @@
 pub mod CountLaws
-pub mod Laid
 pub mod ReleaseLaws
-pub mod Starts
 pub mod TickLaws

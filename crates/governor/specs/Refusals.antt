@@ -1,16 +1,10 @@
--- What refused calls answer.
+-- What refused calls of now and tick answer.
 use Prim.Native.Nat.{ℕ}
 use Rattle.units.specs.Units.{speed}
 use Rattle.rules.specs.declared.State.{State}
-use Rattle.rules.specs.declared.Started.{Started}
 use Rattle.rules.specs.declared.Told.{Told}
 use Rattle.rules.specs.declared.Ticked.{Ticked}
 use Rattle.rules.specs.declared.Choice.the-variants.{Nothing}
-use Rattle.rules.specs.Calls.{zeroState}
-
--- start: its number and the all-zero state
-unfoldable pub refusal : ℕ → Started
-refusal n = record { number = n; state = zeroState }
 
 -- now: its number, nothing chosen and speed 0
 abbrev pub untoldAs : ℕ → Told

@@ -2,7 +2,6 @@
 mod counts;
 mod refusals;
 mod releasing;
-mod tables;
 
 ghost use mathlib.Core.Path.{_≡_};
 ghost use lib.ListN.{length};
@@ -18,17 +17,7 @@ pub fn start(periods: &[u64], reserves: &[u64], speeds: &[u64], volts: &[u64]) -
     ensures { λ r.
         ⌜ r ≡ startOf (now (periods .entry)) (now (reserves .entry)) (now (speeds .entry)) (now (volts .entry)) ⌝ }
 {
-    let verdict = admission::judge(periods, reserves, speeds, volts);
-    let number = verdict.number;
-    if number != 0 {
-        return tables::refused(number);
-    }
-    let tasks = tables::tasks_from(verdict.great, periods, reserves);
-    let ladder = tables::ladder_from(speeds, volts);
-    Started {
-        number: 0,
-        state: tables::fresh(tasks, ladder),
-    }
+    starting::start(periods, reserves, speeds, volts)
 }
 
 // now: from any state to the choice and the lowest speed that carries the load; refused (9, 10, 12), nothing chosen and speed 0.

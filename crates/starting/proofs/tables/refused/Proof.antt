@@ -5,9 +5,9 @@ use Rattle.rules.specs.declared.State.{State}
 use Rattle.rules.specs.declared.Started.{Started}
 use Rattle.rules.specs.Words.{upTo}
 use Rattle.rules.specs.Calls.{tasksFrom, ladderFrom, zeroState}
-use Rattle.governor.specs.Refusals.{refusal}
-use Rattle.governor.proofs.tables.refused.Statement.{statement}
-use Rattle.governor.proofs.tables.refused.Tie as tie
+use Rattle.starting.specs.Refusal.{refusal}
+use Rattle.starting.proofs.tables.refused.Statement.{statement}
+use Rattle.starting.proofs.tables.refused.Tie as tie
 
 fresh-requires : tie.Need-fresh-requires
 fresh-requires c κs = search needs

@@ -2,8 +2,8 @@
 use mathlib.Core.Path.{refl}
 use Rattle.rules.specs.Words.{upTo}
 use Rattle.rules.specs.Calls.{freshJobs, freshTally, freshState}
-use Rattle.governor.proofs.tables.fresh.Statement.{statement}
-use Rattle.governor.proofs.tables.fresh.Tie as tie
+use Rattle.starting.proofs.tables.fresh.Statement.{statement}
+use Rattle.starting.proofs.tables.fresh.Tie as tie
 
 returns : tie.Need-returns
 unfolding freshState freshJobs freshTally upTo

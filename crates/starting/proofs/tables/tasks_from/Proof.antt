@@ -8,9 +8,9 @@ use Rattle.units.specs.Units.{ticks, cycles}
 use Rattle.rules.specs.Words.{upTo}
 use Rattle.rules.specs.Limits.{mostTasks}
 use Rattle.rules.specs.Calls.{tasksFrom}
-use Rattle.governor.proofs.Laid.{laid, laid-none, laid-on, laid-all}
-use Rattle.governor.proofs.tables.tasks_from.Statement.{statement}
-use Rattle.governor.proofs.tables.tasks_from.Tie as tie
+use Rattle.starting.proofs.Laid.{laid, laid-none, laid-on, laid-all}
+use Rattle.starting.proofs.tables.tasks_from.Statement.{statement}
+use Rattle.starting.proofs.tables.tasks_from.Tie as tie
 
 abbrev Inv-loop : tie.InvT-loop
 Inv-loop great periods reserves ps₀ cs₀ i₀ ps cs i =

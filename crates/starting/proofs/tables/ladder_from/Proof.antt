@@ -8,9 +8,9 @@ use Rattle.units.specs.Units.{speed, volts as tenths}
 use Rattle.rules.specs.Words.{upTo}
 use Rattle.rules.specs.Limits.{mostSpeeds}
 use Rattle.rules.specs.Calls.{ladderFrom}
-use Rattle.governor.proofs.Laid.{laid, laid-none, laid-on, laid-all}
-use Rattle.governor.proofs.tables.ladder_from.Statement.{statement}
-use Rattle.governor.proofs.tables.ladder_from.Tie as tie
+use Rattle.starting.proofs.Laid.{laid, laid-none, laid-on, laid-all}
+use Rattle.starting.proofs.tables.ladder_from.Statement.{statement}
+use Rattle.starting.proofs.tables.ladder_from.Tie as tie
 
 abbrev Inv-loop : tie.InvT-loop
 Inv-loop speeds volts ss₀ vs₀ i₀ ss vs i =

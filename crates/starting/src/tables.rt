@@ -4,7 +4,7 @@ ghost use Prim.Native.Nat.{_≤_};
 ghost use lib.ListN.{length};
 ghost use Rattle.rules.specs.Limits.{mostTasks, mostSpeeds};
 ghost use Rattle.rules.specs.Calls.{tasksFrom, ladderFrom, freshState};
-ghost use Rattle.governor.specs.Refusals.{refusal};
+ghost use Rattle.starting.specs.Refusal.{refusal};
 use rules::Jobs;
 use rules::Ladder;
 use rules::Started;

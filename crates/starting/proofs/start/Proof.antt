@@ -4,9 +4,9 @@ use mathlib.Core.Path.{ap₂, _∙_}
 use Rattle.rules.specs.Limits.{mostTasks, mostSpeeds}
 use Rattle.rules.specs.Calls.{freshState}
 use Rattle.rules.proofs.Tables.{passes, match-most, match-same}
-use Rattle.governor.proofs.Starts.{number-is, start-refused, start-passed}
-use Rattle.governor.proofs.start.Statement.{statement}
-use Rattle.governor.proofs.start.Tie as tie
+use Rattle.starting.proofs.Starts.{number-is, start-refused, start-passed}
+use Rattle.starting.proofs.start.Statement.{statement}
+use Rattle.starting.proofs.start.Tie as tie
 
 judge-requires : tie.Need-judge-requires
 judge-requires c κs = search needs

@@ -9,7 +9,7 @@ use Rattle.rules.specs.Admission.{greatOf}
 use Rattle.rules.specs.Calls.{tasksFrom, ladderFrom, freshState, startOf}
 use Rattle.admission.specs.declared.Verdict.{Verdict}
 use Rattle.admission.specs.Verdict.{verdictOf}
-use Rattle.governor.specs.Refusals.{refusal}
+use Rattle.starting.specs.Refusal.{refusal}
 
 module _ (ps cs ss vs : List ℕ) (v : Verdict) (judged : v ≡ verdictOf ps cs ss vs) where
   -- the verdict's number is start's, and its great period is the table's where that is 0
