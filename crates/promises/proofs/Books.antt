@@ -34,6 +34,11 @@ module _ (s : State) (d i : ℕ) where
   unfolding roomAt room deadlineAt periodAt jobAt
   room-is = refl
 
+-- a job that is not over uses its reserve
+pub ready-use : (j : Job) → j .over ≡ false → useOf j ≡ j .reserve .0
+unfolding useOf
+ready-use j o = rw o
+
 -- both sides, by whether the job is due by d and whether it is over
 module _ (great t d : ℕ) (j : Job) where
   pub later-owes : leb (deadline t j) d ≡ false → owes great t d j ≡ 0

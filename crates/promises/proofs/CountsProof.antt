@@ -1,19 +1,18 @@
 -- From a fresh start on all counts come from the grants: a run adds to zeros, and the state's arrays hold the table's lists.
 use mathlib.Core.Path.{_≡_, sym, ap, fun-ext}
 use mathlib.Core.List.{List}
-use Prim.Native.Nat.{ℕ, _-_, _*_, _<_}
+use Prim.Native.Nat.{ℕ, _-_, _*_, _≤_, _<_}
 use native.Mathlib.Omega.{arith}
 use lib.ListN.{length, getD, length-map}
 use Rattle.rules.specs.declared.State.{State}
 use Rattle.rules.specs.Words.{total}
-use Rattle.rules.specs.Limits.{mostTasks, mostSpeeds}
-use Rattle.rules.specs.State.{speedAt, voltsAt, countAt, jobAt}
+use Rattle.rules.specs.Limits.{mostSpeeds}
+use Rattle.rules.specs.State.{speedAt, voltsAt, countAt}
 use Rattle.rules.specs.Counting.{energySum}
-use Rattle.rules.specs.Admission.{greatOf}
 use Rattle.rules.specs.Calls.{freshTally, freshState, energyOf}
 use Rattle.rules.proofs.Tables.{match-same}
 use Rattle.rules.proofs.Soundness.{facts-sound}
-use Rattle.rules.proofs.Fresh.{run-fresh, over-fresh, count-fresh, period-laid, reserve-laid, speed-laid, ladder-speeds, ladder-volts}
+use Rattle.rules.proofs.Fresh.{count-fresh, speed-laid, ladder-speeds, ladder-volts}
 use Rattle.rules.proofs.CallRows.{energy-accepted}
 use Rattle.promises.specs.Runs.{Table, Call, Step, started, after, steps, grantsTo, entriesOf, granted, sumTo}
 use Rattle.promises.specs.Counts.{grantedAt, voltsBeside, cutJob, CountsComeFromTheGrants}
@@ -22,10 +21,10 @@ use Rattle.promises.proofs.Sums.{sum-zero, sum-same}
 use Rattle.promises.proofs.SoundRuns.{SoundAndShaped, sound-next, sound-start, ticks-done}
 use Rattle.promises.proofs.Tallies.{all-within, counts-run, idle-run}
 use Rattle.promises.proofs.TallyEnergy.{ladderVolts, stepEnergy, energy-run}
-use Rattle.promises.proofs.StartLaws.{started-is, passed, tasks-few, speeds-few, tasks-count, speeds-count, start-done}
-use Rattle.promises.proofs.StepPlaces.{go-fresh}
+use Rattle.promises.proofs.StartLaws.{started-is, passed, speeds-few, tasks-count, speeds-count, start-done}
+use Rattle.promises.proofs.StepPlaces.{fresh-onward}
 use Rattle.promises.proofs.CutWindows.{cuts-of-jobs}
-use Rattle.promises.proofs.TallyCuts.{CutsOnward, RunCuts, cuts-run}
+use Rattle.promises.proofs.TallyCuts.{CutsOf, CutsOnward, RunCuts, cuts-run}
 
 -- the state that start answers, and the state and the accepted ticks after calls from there
 abbrev begun : Table → State
@@ -75,17 +74,13 @@ module _ (table : Table) (e : started table .number ≡ 0) where
 
   -- a task's first job is at hand at tick 0, with a whole period to go: its cuts to come are those of all its jobs
   cuts-listed : (i : ℕ) → i < length (table .periods) → (gs us : List ℕ) (cuts : ℕ) → CutsOnward i (begun table) gs us cuts → sumTo (length gs) (λ job. cutJob (getD (table .reserves) i 0) (getD (table .periods) i 0) job gs us) ≡ cuts
-  unfolding freshState jobAt
   cuts-listed i h gs us cuts to-come =
       let place : i < begun table .tasks .count = omega (arith, tasks-count table e) in
-      let l : i < mostTasks = omega (arith, tasks-few table e) in
       let f = sound-start table e .facts in
-      let period-is = period-laid (greatOf (table .periods)) (table .periods) (table .reserves) i l in
-      let reserve-is = reserve-laid (greatOf (table .periods)) (table .periods) (table .reserves) i l in
-      cuts-of-jobs (getD (table .reserves) i 0) (getD (table .periods) i 0) gs us cuts
-      (rw (started-is table e, reserve-is) at (f .reserve-some i place))
-      (rw (started-is table e, period-is) at (f .period-some i place))
-      (rw (started-is table e, reserve-is, period-is, run-fresh i l, over-fresh i l, go-fresh (getD (table .periods) i 0)) at to-come)
+      let (asks, some, all) = fresh-onward
+      (λ reserve period over run togo xs ys. (1 ≤ reserve) × (1 ≤ period) × CutsOf cuts reserve period over run togo xs ys)
+      table e i h gs us (f .reserve-some i place, f .period-some i place, to-come) in
+      cuts-of-jobs (getD (table .reserves) i 0) (getD (table .periods) i 0) gs us cuts asks some all
 
 -- a task has one grant in each tick
 length-grants : (i : ℕ) (xs : List Step) → length (grantsTo i xs) ≡ length xs

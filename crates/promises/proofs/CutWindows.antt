@@ -1,35 +1,31 @@
 -- The jobs of a task that are cut, by its grants and entries from a tick on: the job at hand by its ticks to go, each later one by its window.
-use mathlib.Core.Path.{_≡_, refl, sym, ap, ap₂, _∙_}
+use mathlib.Core.Path.{_≡_, refl, sym, ap₂, _∙_}
 use mathlib.Core.Bool.{Bool, true, false, false≢true, cond, not, _&&_, and-false}
 use mathlib.Core.List.{List, [], _∷_}
 use Prim.Native.Nat.{ℕ, zero, suc, _+_, _≤_, _<_}
-use native.Mathlib.Nat.{le-refl, le-trans, zero-add, add-zero, add-assoc, le-mul-of-pos-right}
+use native.Mathlib.Nat.{le-refl, zero-add, add-zero, add-assoc}
 use native.Mathlib.Decide.{ℕ-discrete}
 use native.Mathlib.Omega.{arith}
 use lib.Dec.{eqb, eqb·suc-zero}
-use lib.ListN.{length, take, drop, drop-of-length-le}
+use lib.ListN.{length, take, drop}
 use lib.Seq.{take-nil, drop-nil}
 use borrow.Author.Tests.{eqb-false, eq-eqb, ne-eqb}
 use Rattle.rules.specs.declared.Job.{Job}
 use Rattle.rules.specs.Words.{upTo, total}
-use Rattle.rules.proofs.Totals.{total-places}
+use Rattle.rules.proofs.Totals.{total-places, total-last}
 use Rattle.promises.specs.Runs.{sumTo}
 use Rattle.promises.specs.ExactCycles.{windowOf, finishes}
 use Rattle.promises.specs.Counts.{cutJob}
-use Rattle.promises.proofs.Sums.{sum-zero, sum-last, sum-same}
-use Rattle.promises.proofs.Portions.{Portion}
-use Rattle.promises.proofs.Windows.{finishes-0, finishes-u, window-first, window-later}
+use Rattle.promises.proofs.Sums.{sum-zero, sum-same}
+use Rattle.promises.proofs.Portions.{Portion, cutNow}
+use Rattle.promises.proofs.Windows.{NothingMore, finishes-0, finishes-u, nothing-before, window-first, window-later, window-past}
 
 -- 1 where the job at hand is cut in its ticks to go, 0 where it is not: it is not over, no finish comes, and its run count comes to its reserve
 unfoldable pub cutAtHand : ℕ → Bool → ℕ → ℕ → List ℕ → List ℕ → ℕ
 cutAtHand reserve over run togo grants entries =
     cond (not over && eqb (length (finishes (take togo entries))) 0 && eqb (run + total (λ g. g) (take togo grants)) reserve) 1 0
 
--- a job at hand that is over gets nothing more: no grant and no finish
-abbrev pub NothingMore : Bool → ℕ → List ℕ → List ℕ → Type 0
-NothingMore over togo grants entries = over ≡ true → (total (λ g. g) (take togo grants) ≡ 0) × (finishes (take togo entries) ≡ [])
-
--- The cuts of a task from a tick on: those of its job at hand and of the jobs after it, n of them where there are no more than n ticks.
+-- The cuts of a task from a tick on: that of its job at hand and those of the jobs after it, of which the first n will do where there are no more than n ticks.
 pub record CutsToCome (reserve period : ℕ) (over : Bool) (run togo : ℕ) (grants entries : List ℕ) (cuts : ℕ) : Type 0 where
   pub nothing-more : NothingMore over togo grants entries
   pub come-to : (n : ℕ) → length grants ≤ n
@@ -42,19 +38,8 @@ short-uncut reserve true run togo gs us short = refl
 short-uncut reserve false run togo gs us short =
     rw (ne-eqb (run + total (λ g. g) (take togo gs)) reserve (short refl), and-false (eqb (length (finishes (take togo us))) 0))
 
--- what a tick adds to cut: 1 for a job that was not over and uses its reserve up with entry 0
-abbrev pub cutNow : ℕ → ℕ → Job → ℕ
-cutNow u g j = cond (not (j .over) && eqb u 0 && eqb (j .run .0 + g) (j .reserve .0)) 1 0
-
 -- one tick in front, which takes the job j to the job k
 module _ (u g : ℕ) (j k : Job) (portion : Portion u g j k) (togo : ℕ) (gs us : List ℕ) (nothing : NothingMore (k .over) togo gs us) where
-  nothing-before : NothingMore (j .over) (suc togo) (g ∷ gs) (u ∷ us)
-  unfolding total
-  nothing-before o =
-      let now = portion .was-over o in
-      let more = nothing (now .2) in
-      (omega (arith, now .0, more .0), finishes-0 u (take togo us) (now .1) ∙ more .1)
-
   -- the job is cut in this tick or in those after it
   abbrev OneMore : Type 0
   OneMore = cutAtHand (j .reserve .0) (j .over) (j .run .0) (suc togo) (g ∷ gs) (u ∷ us) ≡ cutNow u g j + cutAtHand (j .reserve .0) (k .over) (k .run .0) togo gs us
@@ -119,16 +104,11 @@ module _ (reserve period : ℕ) where
   unfolding cutJob
   cut-later job gs us = rw (window-later period job gs, window-later period job us)
 
-  -- past the run no job is cut: its window is empty
-  window-past : 1 ≤ period → (job : ℕ) (l : List ℕ) → length l ≤ job → windowOf period job l ≡ []
-  unfolding windowOf
-  window-past some job l h =
-      ap (take period) (drop-of-length-le l (le-trans h (le-mul-of-pos-right job some))) ∙ take-nil period
-
+  -- past the run no job is cut
   cut-past : 1 ≤ reserve → 1 ≤ period → (job : ℕ) (gs us : List ℕ) → length gs ≤ job → cutJob reserve period job gs us ≡ 0
   unfolding cutJob total
   cut-past asks some job gs us h =
-      rw (window-past some job gs h, ne-eqb 0 reserve (λ e. omega arith), and-false (eqb (length (finishes (windowOf period job us))) 0))
+      rw (window-past period job some gs h, ne-eqb 0 reserve (λ e. omega arith), and-false (eqb (length (finishes (windowOf period job us))) 0))
 
   -- so where a fresh job is at hand, it and n jobs after it are the first n + 1 jobs
   all-jobs : (n : ℕ) (gs us : List ℕ) → sumTo (suc n) (λ job. cutJob reserve period job gs us) ≡ cutAtHand reserve false 0 period gs us + sumTo n (λ job. cutJob reserve period job (drop period gs) (drop period us))
@@ -184,5 +164,5 @@ module _ (period u g : ℕ) (j k : Job) (portion : Portion u g j k) (gs us : Lis
 pub cuts-of-jobs : (reserve period : ℕ) (gs us : List ℕ) (cuts : ℕ) → 1 ≤ reserve → 1 ≤ period → CutsToCome reserve period false 0 period gs us cuts → sumTo (length gs) (λ job. cutJob reserve period job gs us) ≡ cuts
 cuts-of-jobs reserve period gs us cuts asks some all =
     let n = length gs in
-    let last = sum-last (λ job. cutJob reserve period job gs us) n in
+    let last = total-last (λ job. cutJob reserve period job gs us) n in
     omega (arith, last, cut-past reserve period asks some n gs us (le-refl n), all-jobs reserve period n gs us, all .come-to n (le-refl n))

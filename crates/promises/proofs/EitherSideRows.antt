@@ -10,7 +10,7 @@ use Rattle.rules.specs.Settlement.{byBullet, remaining, usesUp, allowed, grante
 use Rattle.rules.specs.Counting.{counted, releaseAt, releases, nextOf}
 use Rattle.rules.specs.Admission.{greatOf, fullLoad, admitted}
 use Rattle.rules.specs.Numbers.{sameCount, speedsRise, voltsNeverFall, startNumber, tablesPass, greatRight, unusedJob, unusedTasks, unusedSpeed, unusedSpeeds, ticksBounded, runRight, runsRight, cyclesBounded, lateBounded, cutBounded, sound, allDone, tickNumber}
-use Rattle.rules.specs.Calls.{tasksFrom, ladderFrom, freshJobs, freshTally, freshState, zeroState, startOf, tickOf}
+use Rattle.rules.specs.Calls.{tasksFrom, ladderFrom, freshJobs, freshTally, freshState, startOf, tickOf}
 use Rattle.promises.specs.Runs.{started, ticked, after}
 use Rattle.promises.specs.EitherSide.{paperTable, reports, stateAt, loadAt, numberOf, rows, EitherSideOfTheLine}
 
@@ -20,5 +20,5 @@ unfolding EitherSideOfTheLine rows stateAt loadAt numberOf reports paperTable st
     deadline useOf load carries insertBy orderBy deadlineAt readyAt orderOf lowest loadOf fitsOf speedPlace speedOf noneCarries
     byBullet remaining usesUp allowed granted isCut isOver settleAt settleAll allAllowed overEntriesZero atTickStart settled keepsRule4 counted releaseAt releases nextOf
     greatOf fullLoad admitted sameCount speedsRise voltsNeverFall startNumber tablesPass greatRight unusedJob unusedTasks unusedSpeed unusedSpeeds ticksBounded runRight runsRight cyclesBounded lateBounded cutBounded sound allDone tickNumber
-    tasksFrom ladderFrom freshJobs freshTally freshState zeroState startOf tickOf
+    tasksFrom ladderFrom freshJobs freshTally freshState startOf tickOf
 every-row = refl

@@ -15,15 +15,15 @@ use Rattle.rules.specs.Choice.{orderOf}
 use Rattle.rules.specs.Settlement.{byBullet, allowed, settleAt, allAllowed, overEntriesZero, atTickStart, keepsRule4}
 use Rattle.rules.proofs.Lists.{upTo-all}
 
-module _ (report : List ℕ) (zeros : (i : ℕ) → getD report i 0 ≡ 0) where
-  zero-allowed : (left : ℕ) (j : Job) → allowed left 0 j ≡ true
-  unfolding allowed byBullet
-  zero-allowed left j = go (eqb left 0)
-    where
-      go : (b : Bool) → _≡_ {A = Bool} (cond b true true) true
-      go true = refl
-      go false = refl
+zero-allowed : (left : ℕ) (j : Job) → allowed left 0 j ≡ true
+unfolding allowed byBullet
+zero-allowed left j = go (eqb left 0)
+  where
+    go : (b : Bool) → _≡_ {A = Bool} (cond b true true) true
+    go true = refl
+    go false = refl
 
+module _ (report : List ℕ) (zeros : (i : ℕ) → getD report i 0 ≡ 0) where
   all-zero : (ts : Tasks) (o : List ℕ) (sofar : Settling) → allAllowed ts report o sofar ≡ true
   unfolding allAllowed
   all-zero ts [] sofar = refl

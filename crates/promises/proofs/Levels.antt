@@ -1,4 +1,4 @@
--- A level of an order: a test whose places come first. In an order by key it is one that holds, with a place, of all before it. By induction on the order.
+-- A level of an order: a test whose places come first. In an order by key it is one that holds, with a place, of all before it. And an order has every ready place. By induction on the order.
 use mathlib.Core.Path.{_≡_, refl, sym, ap, _∙_}
 use mathlib.Core.Bool.{Bool, true, false, true≢false, not}
 use mathlib.Core.Logic.{_⊎_, inl, inr}

@@ -3,9 +3,10 @@ use mathlib.Core.Path.{_≡_, refl, sym, ap}
 use mathlib.Core.Bool.{Bool, true, false}
 use mathlib.Core.List.{List, [], _∷_, List·Memᴰ, List·Memᴰ·head, List·Memᴰ·tail, List·Memᴰ·not-nil}
 use Prim.Native.Nat.{ℕ, _+_, _≤_, _<_}
+use native.Mathlib.Decide.{ℕ-discrete, decLt}
 use native.Mathlib.Omega.{arith}
-use lib.Dec.{ltb, eqb}
-use borrow.Author.Tests.{ltb-true, ltb-false, eqb-true, eqb-false, not-false}
+use lib.Dec.{ltb}
+use borrow.Author.Tests.{ltb-true, not-false}
 use Rattle.rules.specs.declared.State.{State}
 use Rattle.rules.specs.declared.Told.{Told}
 use Rattle.rules.specs.Words.{every}
@@ -43,14 +44,12 @@ module _ (s : State) (e : nowOf s .number ≡ 0) where
 module _ (s : State) (f : Sound s) where
   -- a listed speed below it is listed before it, since the speeds rise
   listed-before : (k : ℕ) → k < s .ladder .count → speedAt (s .ladder) k < speedOf s → k < speedPlace s
-  listed-before k h l = go (ltb k (speedPlace s)) (eqb (speedPlace s) k) refl refl
+  listed-before k h l = go (decLt k (speedPlace s)) (ℕ-discrete k (speedPlace s))
     where
-      go : (b c : Bool) → ltb k (speedPlace s) ≡ b → eqb (speedPlace s) k ≡ c → k < speedPlace s
-      go true c e q = ltb-true k (speedPlace s) e
-      go false true e q = omega (arith, speed-of-at s f, ap (speedAt (s .ladder)) (eqb-true (speedPlace s) k q))
-      go false false e q =
-          let later : speedPlace s < k = omega (arith, ltb-false k (speedPlace s) e, eqb-false (speedPlace s) k q) in
-          omega (arith, speed-of-at s f, speed-order s f (speedPlace s) k later h)
+      go : Dec (k < speedPlace s) → Dec (k ≡ speedPlace s) → k < speedPlace s
+      go (yes b) q = b
+      go (no b) (yes q) = omega (arith, speed-of-at s f, ap (speedAt (s .ladder)) q)
+      go (no b) (no q) = omega (arith, speed-of-at s f, speed-order s f (speedPlace s) k (omega arith) h)
 
   lowest-of : LowestThatCarries s (speedOf s)
   lowest-of =

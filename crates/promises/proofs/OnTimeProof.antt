@@ -1,6 +1,6 @@
 -- Never late: a fresh start is covered, each job having a whole period, and each accepted tick keeps the invariant. By induction on the accepted ticks.
 use mathlib.Core.Path.{_≡_, refl, ap, _∙_}
-use mathlib.Core.Bool.{true, false}
+use mathlib.Core.Bool.{false}
 use mathlib.Core.List.{List}
 use Prim.Native.Nat.{ℕ, _+_, _<_}
 use native.Mathlib.Nat.{zero-mod, le-trans, le-of-eq}
@@ -10,15 +10,14 @@ use Rattle.rules.specs.declared.Job.{Job}
 use Rattle.rules.specs.declared.State.{State}
 use Rattle.rules.specs.State.{jobAt}
 use Rattle.rules.specs.Load.{deadline}
-use Rattle.rules.specs.Choice.{orderOf, speedPlace, speedOf}
-use Rattle.rules.specs.Settlement.{allAllowed, overEntriesZero, atTickStart, keepsRule4}
+use Rattle.rules.specs.Choice.{speedPlace, speedOf}
 use Rattle.rules.specs.Calls.{freshTally, freshState}
-use Rattle.rules.proofs.Lists.{both-right}
 use Rattle.rules.proofs.Loads.{speed-enough}
 use Rattle.rules.proofs.Fresh.{run-fresh, over-fresh}
+use Rattle.rules.proofs.Keeps.{all-allowed}
 use Rattle.promises.specs.Runs.{Table, Call, Step, Each, started, after, steps, stepOf}
 use Rattle.promises.specs.NeverLate.{OverAtRelease, NeverLateInAnyRun, Covered, TasksRight, OnCourse, FreshStartIsOnCourse, OnTime, AnyTickThatCarriesTheLoad}
-use Rattle.promises.proofs.RunLaws.{Taken, next, facts, step-speed, by-steps}
+use Rattle.promises.proofs.RunLaws.{Taken, next, tests-passed, step-speed, by-steps}
 use Rattle.promises.proofs.Sums.{sum-same}
 use Rattle.promises.proofs.StartLaws.{freshOf, started-is}
 use Rattle.promises.proofs.SoundRuns.{SoundAndShaped, sound-next, sound-start}
@@ -28,12 +27,11 @@ use Rattle.promises.proofs.TickBooks.{owing, rooms, is-covered, job-who
 
 -- Any tick that keeps rule 4, at a speed that carries the load wherever a job is ready.
 pub any-tick : AnyTickThatCarriesTheLoad
-unfolding AnyTickThatCarriesTheLoad keepsRule4
+unfolding AnyTickThatCarriesTheLoad
 any-tick s course place speed report lawful fast =
     let r = course .tasks-right in
     let c = course .covered in
-    let allowed : allAllowed (s .tasks) report (orderOf s) (atTickStart (s .jobs) speed) ≡ true =
-    both-right (overEntriesZero (s .tasks) (s .jobs) report) _ lawful in
+    let allowed = all-allowed s speed report lawful in
     record {
       over-at-release = over-then s r c speed report allowed fast;
       none-late = late-stays s r c speed report allowed fast place;
@@ -111,7 +109,7 @@ module _ (s : State) (call : Call) (k : Kept s) (taken : Taken s call) where
   unfolding AnyTickThatCarriesTheLoad
   on-time =
       any-tick s (on-course s k) (speedPlace s) (speedOf s) (call .report)
-      (facts s call taken .lawful) (λ i h r. speed-enough s (k .base .facts))
+      (tests-passed s call taken .lawful) (λ i h r. speed-enough s (k .base .facts))
 
   pub kept-over : OverAtRelease s (speedOf s) (call .report)
   kept-over = on-time .over-at-release

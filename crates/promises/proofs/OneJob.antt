@@ -16,7 +16,7 @@ use Rattle.rules.proofs.Loads.{use-most}
 use Rattle.rules.proofs.Places.{run-below}
 use Rattle.rules.proofs.Stores.{withRun}
 use Rattle.rules.proofs.Shares.{settledJob, granted-right}
-use Rattle.promises.proofs.Books.{owes, room, over-owes, due-owes, due-room}
+use Rattle.promises.proofs.Books.{owes, room, ready-use, over-owes, due-owes, due-room}
 
 -- what a job still has to run
 unfoldable toRun : Job → ℕ
@@ -74,13 +74,10 @@ module _ (left u : ℕ) (j : Job) (right : runRight j ≡ true) (ready : j .over
 
     -- and its use only falls
     use-falls : useOf (settledJob left u j) ≤ useOf j
-    use-falls = omega (arith, use-most (settledJob left u j) still-right, same-reserve, whole)
+    use-falls = omega (arith, use-most (settledJob left u j) still-right, same-reserve, ready-use j ready)
       where
         same-reserve : settledJob left u j .reserve .0 ≡ j .reserve .0
         same-reserve = unfold withRun in refl
-
-        whole : useOf j ≡ j .reserve .0
-        whole = unfold useOf in rw ready
 
     -- a job that is due by d pays H times what it is granted: it still is due by d, at the same rate
     module _ (great t d : ℕ) (some : 1 ≤ j .period .0) (due : leb (deadline t j) d ≡ true) where

@@ -17,10 +17,9 @@ use Rattle.rules.specs.State.{periodAt, jobAt}
 use Rattle.rules.specs.Load.{deadline}
 use Rattle.rules.specs.Choice.{deadlineAt, readyAt, orderOf}
 use Rattle.rules.specs.Settlement.{allowed, granted, settleAt, settleAll, allAllowed, atTickStart, settled}
-use Rattle.rules.proofs.Lists.{both-left, both-right}
 use Rattle.rules.proofs.Sorted.{by-deadline}
 use Rattle.rules.proofs.Shares.{settledJob, granted-left}
-use Rattle.rules.proofs.Settles.{Settles, job-here, job-elsewhere, first-below, first-ready, settles-job}
+use Rattle.rules.proofs.Settles.{Settles, job-here, job-elsewhere, first-below, first-ready, settles-job, allowed-first, allowed-rest}
 use Rattle.rules.proofs.Keeps.{settles-start}
 use Rattle.promises.specs.Runs.{sumTo}
 use Rattle.promises.specs.NeverLate.{TasksRight}
@@ -153,7 +152,7 @@ module _ (ts : Tasks) (js : Jobs) (speed : ℕ) (report : List ℕ) (most : ts .
 
   -- the whole order settled
   settle-pays : (o : List ℕ) (sofar : Settling) → Settles ts js (ts .count) speed o sofar → allAllowed ts report o sofar ≡ true → LevelFirst due o → (0 < sofar .left .0 → Covers o (sofar .jobs)) → Enough sofar → owedBy ts t d (settleAll ts report o sofar .jobs) ≤ roomBy ts t d (settleAll ts report o sofar .jobs)
-  unfolding settleAll allAllowed Covers Enough
+  unfolding settleAll Covers Enough
   settle-pays [] sofar v a first c h = go (ℕ-discrete (sofar .left .0) 0)
     where
       go : Dec (sofar .left .0 ≡ 0) → owedBy ts t d (sofar .jobs) ≤ roomBy ts t d (sofar .jobs)
@@ -161,11 +160,9 @@ module _ (ts : Tasks) (js : Jobs) (speed : ℕ) (report : List ℕ) (most : ts .
       go (no z) = omega (arith, nothing-owed (sofar .jobs) (λ k l unfinished e. List·Memᴰ·not-nil (c (omega arith) k l unfinished e)))
   settle-pays (i ∷ o) sofar v a first c h =
       let u = getD report i 0 in
-      let one = allowed (sofar .left .0) u (jobAt ts (sofar .jobs) i) in
-      let rest = allAllowed ts report o (settleAt ts i u sofar) in
-      let one-allowed : one ≡ true = both-left one rest a in
-      settle-pays o (settleAt ts i u sofar) (settles-job ts js (ts .count) speed i u o sofar most v one-allowed) (both-right one rest a)
-      (level-rest due i o first) (covers-rest i o sofar v c) (still-enough i o sofar v one-allowed first c h)
+      let one = allowed-first ts report i o sofar a in
+      settle-pays o (settleAt ts i u sofar) (settles-job ts js (ts .count) speed i u o sofar most v one) (allowed-rest ts report i o sofar a)
+      (level-rest due i o first) (covers-rest i o sofar v c) (still-enough i o sofar v one first c h)
 
 -- a tick of a state, settled in the order of rule 3
 module _ (s : State) (r : TasksRight s) (speed : ℕ) (report : List ℕ) (lawful : allAllowed (s .tasks) report (orderOf s) (atTickStart (s .jobs) speed) ≡ true) (d : ℕ) where

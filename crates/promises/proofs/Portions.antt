@@ -1,4 +1,4 @@
--- What an accepted tick does to the job at one place, by its entry and its grant alone. By induction on the order, one job by rule 4's bullets.
+-- What a tick that keeps rule 4 does to the job at one place, by its entry and its grant alone, and how many jobs it cuts: a job that is over stays, a ready one has its turn.
 use mathlib.Core.Path.{_≡_, refl, sym, ap, _∙_}
 use mathlib.Core.Bool.{Bool, true, false, false≢true, cond, not, _&&_, _||_}
 use mathlib.Core.List.{List}
@@ -7,29 +7,27 @@ use native.Mathlib.Omega.{arith}
 use lib.Dec.{eqb, ltb, leb}
 use lib.ListN.{getD}
 use borrow.Author.Tests.{eqb-true, eq-eqb, ne-eqb, ltb-true}
-use Rattle.units.specs.Units.{cycles}
-use Rattle.units.specs.declared.Cycles.{Cycles}
 use Rattle.rules.specs.declared.Job.{Job}
 use Rattle.rules.specs.declared.Settling.{Settling}
 use Rattle.rules.specs.declared.State.{State}
 use Rattle.rules.specs.Words.{total}
-use Rattle.rules.specs.Limits.{mostTasks}
 use Rattle.rules.specs.State.{Shaped, jobAt}
 use Rattle.rules.specs.Choice.{orderBy, deadlineAt, readyAt, orderOf}
-use Rattle.rules.specs.Settlement.{byBullet, remaining, usesUp, allowed, granted, isOver, allAllowed, overEntriesZero, atTickStart, settled, keepsRule4}
+use Rattle.rules.specs.Settlement.{byBullet, remaining, usesUp, allowed, granted, isOver, overEntriesZero, atTickStart, settled, keepsRule4}
 use Rattle.rules.specs.Numbers.{runRight}
-use Rattle.rules.proofs.Lists.{both-left, both-right, getD-upTo, upTo-at}
+use Rattle.rules.proofs.Lists.{both-left, upTo-at}
+use Rattle.rules.proofs.Totals.{total-last}
 use Rattle.rules.proofs.Orders.{every-mono, total-insert, order-in, order-out, order-ready}
 use Rattle.rules.proofs.Stores.{withRun}
 use Rattle.rules.proofs.Places.{run-below, run-most}
 use Rattle.rules.proofs.Shares.{settledJob, granted-right}
 use Rattle.rules.proofs.Settles.{Settles}
-use Rattle.rules.proofs.Keeps.{jobs-right, settles-start}
+use Rattle.rules.proofs.Keeps.{jobs-right, over-zeros, all-allowed, settles-start}
 use Rattle.rules.proofs.Soundness.{Sound}
 use Rattle.promises.specs.Runs.{sumTo}
-use Rattle.promises.proofs.Sums.{sum-none, sum-last, sum-same}
+use Rattle.promises.proofs.Sums.{sum-none, sum-same}
 use Rattle.promises.proofs.Levels.{order-has}
-use Rattle.promises.proofs.SettledPlaces.{grantAt, absent, job-kept, grant-kept, Turn, walk-turn, walk-cut}
+use Rattle.promises.proofs.SettledPlaces.{grantAt, none-granted, absent, job-kept, grant-kept, Turn, walk-turn, walk-cut}
 
 -- entry u and grant g take the job j to the job k
 pub record Portion (u g : ℕ) (j k : Job) : Type 0 where
@@ -104,13 +102,17 @@ order-sum key ready f (suc n) = go (ready n) refl (order-sum key ready f n)
     go : (b : Bool) → ready n ≡ b → total f (orderBy key ready n) ≡ sumTo n term → total f (orderBy key ready (suc n)) ≡ sumTo (suc n) term
     go true e h =
         let last : term n ≡ f n = ap (λ (b : Bool). cond b (f n) 0) e in
-        rw (order-in key ready n e) (omega (arith, total-insert key n f (orderBy key ready n), sum-last term n))
+        rw (order-in key ready n e) (omega (arith, total-insert key n f (orderBy key ready n), total-last term n))
     go false e h =
         let last : term n ≡ 0 = ap (λ (b : Bool). cond b (f n) 0) e in
-        rw (order-out key ready n e) (omega (arith, sum-last term n))
+        rw (order-out key ready n e) (omega (arith, total-last term n))
+
+-- what entry u and grant g add to cut: 1 for a job that was not over and uses its reserve up with entry 0
+abbrev pub cutNow : ℕ → ℕ → Job → ℕ
+cutNow u g j = cond (not (j .over) && eqb u 0 && eqb (j .run .0 + g) (j .reserve .0)) 1 0
 
 -- a portion that ends over with entry 0 uses the reserve up
-portion-cut : (u g : ℕ) (j k : Job) → Portion u g j k → _≡_ {A = ℕ} (cond (not (j .over)) (cond (eqb u 0 && k .over) 1 0) 0) (cond (not (j .over) && eqb u 0 && eqb (j .run .0 + g) (j .reserve .0)) 1 0)
+portion-cut : (u g : ℕ) (j k : Job) → Portion u g j k → cond (not (j .over)) (cond (eqb u 0 && k .over) 1 0) 0 ≡ cutNow u g j
 portion-cut u g j k p = go (j .over) (eqb u 0) refl refl
   where
     go : (b c : Bool) → j .over ≡ b → eqb u 0 ≡ c → _≡_ {A = ℕ} (cond (not b) (cond (c && k .over) 1 0) 0) (cond (not b && c && eqb (j .run .0 + g) (j .reserve .0)) 1 0)
@@ -118,14 +120,12 @@ portion-cut u g j k p = go (j .over) (eqb u 0) refl refl
     go false false o z = refl
     go false true o z = ap (λ (b : Bool). cond b 1 0) (p .no-finish o (eqb-true u 0 z))
 
--- the cycles that a settled tick grants to the task at a place
+-- of the task at a place, in a settled tick: the cycles granted to it, and what it adds to cut
 abbrev pub share : State → ℕ → List ℕ → ℕ → ℕ
-share s speed report i = getD (settled s speed report .grants) i (cycles 0) .0
+share s speed report = grantAt (settled s speed report)
 
--- one more is cut: a job that was not over and uses its reserve up with entry 0
 abbrev pub cutAt : State → ℕ → List ℕ → ℕ → ℕ
-cutAt s speed report i =
-    cond (not (jobAt (s .tasks) (s .jobs) i .over) && eqb (getD report i 0) 0 && eqb (jobAt (s .tasks) (s .jobs) i .run .0 + share s speed report i) (jobAt (s .tasks) (s .jobs) i .reserve .0)) 1 0
+cutAt s speed report i = cutNow (getD report i 0) (share s speed report i) (jobAt (s .tasks) (s .jobs) i)
 
 module _ (s : State) (f : Sound s) (shape : Shaped s) (speed : ℕ) (report : List ℕ) (lawful : keepsRule4 s speed report ≡ true) where
   abbrev job : ℕ → Job
@@ -134,28 +134,16 @@ module _ (s : State) (f : Sound s) (shape : Shaped s) (speed : ℕ) (report : Li
   abbrev start : Settling
   start = atTickStart (s .jobs) speed
 
-  -- both halves of rule 4, and the settlement as it begins
-  over-zeros : overEntriesZero (s .tasks) (s .jobs) report ≡ true
-  unfolding keepsRule4
-  over-zeros = both-left (overEntriesZero (s .tasks) (s .jobs) report) (allAllowed (s .tasks) report (orderOf s) start) lawful
-
-  all-allowed : allAllowed (s .tasks) report (orderOf s) start ≡ true
-  unfolding keepsRule4
-  all-allowed = both-right (overEntriesZero (s .tasks) (s .jobs) report) (allAllowed (s .tasks) report (orderOf s) start) lawful
-
+  -- the settlement as it begins, with the ready jobs to come
   begun : Settles (s .tasks) (s .jobs) (s .tasks .count) speed (orderOf s) start
   begun = settles-start s (jobs-right s f shape) speed
-
-  no-grant-yet : (i : ℕ) → i < s .tasks .count → grantAt start i ≡ 0
-  unfolding atTickStart
-  no-grant-yet i h = ap (λ (g : Cycles). g .0) (getD-upTo mostTasks (λ k. cycles 0) i (cycles 0) (omega (arith, f .tasks-most)))
 
   -- a job that is over has entry 0 and is not in the order
   over-entry : (i : ℕ) → i < s .tasks .count → job i .over ≡ true → getD report i 0 ≡ 0
   unfolding overEntriesZero
   over-entry i h o =
       let here : (not (job i .over) || eqb (getD report i 0) 0) ≡ true =
-      upTo-at (λ k. not (job k .over) || eqb (getD report k 0) 0) (s .tasks .count) (λ k. k) over-zeros i h in
+      upTo-at (λ k. not (job k .over) || eqb (getD report k 0) 0) (s .tasks .count) (λ k. k) (over-zeros s speed report lawful) i h in
       eqb-true (getD report i 0) 0 (rw o at here)
 
   over-absent : (i : ℕ) → job i .over ≡ true → absent i (orderOf s) ≡ true
@@ -174,18 +162,19 @@ module _ (s : State) (f : Sound s) (shape : Shaped s) (speed : ℕ) (report : Li
       go : (b : Bool) → job i .over ≡ b → Portion (getD report i 0) (share s speed report i) (job i) (jobAt (s .tasks) (settled s speed report .jobs) i)
       go true o =
           let out = over-absent i o in
-          rw (job-kept (s .tasks) report i (orderOf s) start out, grant-kept (s .tasks) report i (orderOf s) start out, no-grant-yet i h)
+          let none = none-granted (s .jobs) speed i (omega (arith, f .tasks-most)) in
+          rw (job-kept (s .tasks) report i (orderOf s) start out, grant-kept (s .tasks) report i (orderOf s) start out, none)
           (over-portion (getD report i 0) (job i) (f .run-right i h) o (over-entry i h o))
       go false o =
           turn-portion _ _ _ _
-          (walk-turn (s .tasks) (s .jobs) (s .tasks .count) speed (f .tasks-most) report i (orderOf s) start all-allowed begun
+          (walk-turn (s .tasks) (s .jobs) (s .tasks .count) speed (f .tasks-most) report i (orderOf s) start (all-allowed s speed report lawful) begun
           (order-has (deadlineAt s) (readyAt s) (s .tasks .count) i h (ap not o)))
 
   -- the jobs of the order that end over with entry 0, counted place by place
   pub cut-is : settled s speed report .cut ≡ sumTo (s .tasks .count) (cutAt s speed report)
   unfolding settled atTickStart orderOf readyAt
   cut-is =
-      let along = walk-cut (s .tasks) (s .jobs) (s .tasks .count) speed (f .tasks-most) report (orderOf s) start all-allowed begun in
+      let along = walk-cut (s .tasks) (s .jobs) (s .tasks .count) speed (f .tasks-most) report (orderOf s) start (all-allowed s speed report lawful) begun in
       let places = sum-same (λ i. cond (readyAt s i) (ends-cut i) 0) (cutAt s speed report) (s .tasks .count) same in
       omega (arith, along, order-sum (deadlineAt s) (readyAt s) ends-cut (s .tasks .count), places)
     where

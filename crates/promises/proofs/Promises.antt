@@ -6,8 +6,7 @@ use Rattle.promises.specs.PaperTest.{Figure1, StartTestsFigure1, Figure4
 use Rattle.promises.specs.Counts.{CountsComeFromTheGrants}
 use Rattle.promises.specs.StaysSound.{EveryRunStaysSound}
 use Rattle.promises.specs.EitherSide.{EitherSideOfTheLine}
-use Rattle.promises.proofs.Invariant.{Kept}
-use Rattle.promises.proofs.OnTimeProof.{fresh-on-course, any-tick, kept-start, kept-next, kept-over, in-any-run}
+use Rattle.promises.proofs.OnTimeProof.{fresh-on-course, any-tick, in-any-run}
 use Rattle.promises.proofs.ExactProof.{exactly-the-cycles}
 use Rattle.promises.proofs.Starves.{some-job-starves}
 use Rattle.promises.proofs.Fractions.{figure-1, start-tests, figure-4}
@@ -28,7 +27,7 @@ any-tick-on-time = any-tick
 
 -- Demand 3: exactly the cycles, and never more than the reserve.
 pub exact-cycles : ExactlyTheCycles
-exact-cycles = exactly-the-cycles Kept (λ s k. k .base .facts) (λ s k. k .base .shape) kept-next kept-over kept-start
+exact-cycles = exactly-the-cycles
 
 -- Demand 3: a table turned away for load is one that no order of running could serve.
 pub turned-away : TurnedAwayForLoad
@@ -54,7 +53,7 @@ earliest-deadline = earliest-told
 pub counts : CountsComeFromTheGrants
 counts = counts-from-grants
 
--- A run never meets 9.
+-- Demand 3, "any run": it never meets 9, nor 12, and goes on to its last tick.
 pub stays-sound : EveryRunStaysSound
 stays-sound = every-run-sound
 

@@ -1,6 +1,6 @@
 -- The books of one job over a tick: it spends a share of the room, and a release makes room for all that the new job owes. By whether it is due by d, and released.
 use mathlib.Core.Path.{_≡_, refl, sym, ap, _∙_}
-use mathlib.Core.Bool.{Bool, true, false, cond, not}
+use mathlib.Core.Bool.{Bool, true, false, cond}
 use Prim.Native.Nat.{ℕ, _+_, _-_, _*_, _/_, _%_, _≤_, _<_}
 use native.Mathlib.Nat.{mul-le-mul-left, mul-zero, mul-pos, add-sub-cancel-left}
 use native.Mathlib.Omega.{arith}
@@ -14,7 +14,7 @@ use Rattle.rules.proofs.Stores.{withRun}
 use Rattle.rules.proofs.Places.{run-below}
 use Rattle.rules.proofs.Deadlines.{deadline-next, due-stays, due-moves}
 use Rattle.rules.proofs.Releases.{afterRelease}
-use Rattle.promises.proofs.Books.{owes, room, over-owes, later-owes, due-owes, later-room, due-room}
+use Rattle.promises.proofs.Books.{owes, room, ready-use, over-owes, later-owes, due-owes, later-room, due-room}
 
 -- both sides over a tick
 module _ (great t d : ℕ) (j : Job) where
@@ -53,16 +53,12 @@ module _ (great t d : ℕ) (j : Job) where
     unfolding remaining
     rest-is-all = omega arith
 
-    use-is-all : useOf j ≡ j .reserve .0
-    unfolding useOf
-    use-is-all = rw o
-
     pub fresh-room : owes great t d j ≡ room great t t d j
     fresh-room = go (leb (deadline t j) d) refl
       where
         go : (b : Bool) → leb (deadline t j) d ≡ b → owes great t d j ≡ room great t t d j
         go true e =
-            rw (due-owes great t d j e o, due-room great t d j t e, rest-is-all, use-is-all, due, add-sub-cancel-left t (j .period .0))
+            rw (due-owes great t d j e o, due-room great t d j t e, rest-is-all, ready-use j o, due, add-sub-cancel-left t (j .period .0))
             (omega (arith, ap (λ x. j .reserve .0 * x) whole))
         go false e = later-owes great t d j e ∙ sym (later-room great t d j t e)
 

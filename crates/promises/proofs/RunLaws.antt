@@ -4,20 +4,19 @@ use mathlib.Core.Bool.{Bool, true, false, cond}
 use mathlib.Core.List.{List, [], _∷_}
 use lib.Dec.{eqb}
 use lib.ListN.{length, getD}
-use borrow.Author.Tests.{eqb-true, eqb-false, lt-leb}
+use borrow.Author.Tests.{eqb-true, eqb-false}
 use Rattle.units.specs.Units.{cycles}
 use Rattle.rules.specs.declared.State.{State}
 use Rattle.rules.specs.declared.Settling.{Settling}
 use Rattle.rules.specs.declared.Ticked.{Ticked}
 use Rattle.rules.specs.declared.Told.{Told}
 use Rattle.rules.specs.Words.{upTo}
-use Rattle.rules.specs.Limits.{mostTicks}
 use Rattle.rules.specs.Choice.{speedPlace, speedOf}
 use Rattle.rules.specs.Settlement.{settled}
 use Rattle.rules.specs.Counting.{nextOf}
-use Rattle.rules.specs.Numbers.{nowNumber, tickNumber, allDone}
+use Rattle.rules.specs.Numbers.{nowNumber, tickNumber}
 use Rattle.rules.specs.Calls.{tickOf}
-use Rattle.rules.proofs.CallRows.{Accepted, accepted, now-0, now-accepted, tick-refused, tick-accepted, grants-written}
+use Rattle.rules.proofs.CallRows.{Accepted, accepted, not-all-done, now-0, now-accepted, tick-refused, tick-accepted, grants-written}
 use Rattle.rules.proofs.Soundness.{facts-sound}
 use Rattle.rules.proofs.Loads.{some-carries}
 use Rattle.promises.specs.Runs.{Call, Step, ticked, after, stepOf, steps}
@@ -34,13 +33,15 @@ abbrev pub Taken : State → Call → Type 0
 Taken s call = tickNumber s (call .report) (length (call .grants)) ≡ 0
 
 module _ (s : State) (call : Call) (e : Taken s call) where
-  pub facts : Accepted s (call .report) (length (call .grants))
-  facts = accepted s (call .report) (length (call .grants)) e
+  -- every test of tick passed
+  pub tests-passed : Accepted s (call .report) (length (call .grants))
+  tests-passed = accepted s (call .report) (length (call .grants)) e
 
   -- now answers 0 too, and the step has the speed that the tick is settled at
-  pub now-is-0 : nowNumber s ≡ 0
-  unfolding allDone
-  now-is-0 = now-0 s (facts-sound s (facts .is-sound)) (lt-leb mostTicks (s .done .0) (facts .room)) (some-carries s (facts .is-sound))
+  now-is-0 : nowNumber s ≡ 0
+  now-is-0 =
+      let f = tests-passed .is-sound in
+      now-0 s (facts-sound s f) (not-all-done s (tests-passed .room)) (some-carries s f)
 
   pub step-speed : stepOf s call .speed ≡ speedOf s
   unfolding stepOf

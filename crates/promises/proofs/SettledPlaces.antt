@@ -9,6 +9,7 @@ use lib.Dec.{eqb}
 use lib.ListN.{getD}
 use borrow.Author.Tests.{eqb-false, not-true}
 use Rattle.units.specs.Units.{cycles}
+use Rattle.units.specs.declared.Cycles.{Cycles}
 use Rattle.rules.specs.declared.Tasks.{Tasks}
 use Rattle.rules.specs.declared.Jobs.{Jobs}
 use Rattle.rules.specs.declared.Job.{Job}
@@ -16,17 +17,22 @@ use Rattle.rules.specs.declared.Settling.{Settling}
 use Rattle.rules.specs.Words.{total, every}
 use Rattle.rules.specs.Limits.{mostTasks}
 use Rattle.rules.specs.State.{jobAt}
-use Rattle.rules.specs.Settlement.{byBullet, usesUp, allowed, granted, isCut, isOver, settleAt, settleAll, allAllowed}
+use Rattle.rules.specs.Settlement.{byBullet, usesUp, allowed, granted, isCut, isOver, settleAt, settleAll, allAllowed, atTickStart}
 use Rattle.rules.specs.Numbers.{runRight}
-use Rattle.rules.proofs.Lists.{both-left, both-right, every-first, every-rest}
+use Rattle.rules.proofs.Lists.{getD-upTo, every-first, every-rest}
 use Rattle.rules.proofs.Stores.{withRun}
 use Rattle.rules.proofs.Shares.{settledJob}
-use Rattle.rules.proofs.Settles.{Settles, job-here, job-elsewhere, grant-here, grant-elsewhere, first-below, first-ready, first-once, settles-job}
+use Rattle.rules.proofs.Settles.{Settles, job-here, job-elsewhere, grant-here, grant-elsewhere, first-below, first-ready, first-once, settles-job, allowed-first, allowed-rest}
 use Rattle.promises.proofs.Levels.{mem-rest}
 
 -- what is granted to the task at a place so far
 abbrev pub grantAt : Settling → ℕ → ℕ
 grantAt sofar i = getD (sofar .grants) i (cycles 0) .0
+
+-- nothing as a tick begins
+pub none-granted : (js : Jobs) (speed i : ℕ) → i < mostTasks → grantAt (atTickStart js speed) i ≡ 0
+unfolding atTickStart
+none-granted js speed i h = ap (λ (g : Cycles). g .0) (getD-upTo mostTasks (λ k. cycles 0) i (cycles 0) h)
 
 -- a job is cut where it is over with entry 0
 cut-over : (left u : ℕ) (j : Job) → isCut left u j ≡ (eqb u 0 && isOver left u j)
@@ -82,16 +88,8 @@ module _ (ts : Tasks) (js : Jobs) (n speed : ℕ) (most : n ≤ mostTasks) (repo
   abbrev end : Settling
   end = settleAll ts report (i ∷ o) sofar
 
-  first-allowed : allowed (sofar .left .0) entry first ≡ true
-  unfolding allAllowed
-  first-allowed = both-left (allowed (sofar .left .0) entry first) (allAllowed ts report o (settleAt ts i entry sofar)) a
-
-  rest-allowed : allAllowed ts report o (settleAt ts i entry sofar) ≡ true
-  unfolding allAllowed
-  rest-allowed = both-right (allowed (sofar .left .0) entry first) (allAllowed ts report o (settleAt ts i entry sofar)) a
-
   rest-settles : Settles ts js n speed o (settleAt ts i entry sofar)
-  rest-settles = settles-job ts js n speed i entry o sofar most v first-allowed
+  rest-settles = settles-job ts js n speed i entry o sofar most v (allowed-first ts report i o sofar a)
 
   -- the rest leaves the first as it is after its turn
   below : i < n
@@ -118,7 +116,7 @@ module _ (ts : Tasks) (js : Jobs) (n speed : ℕ) (most : n ≤ mostTasks) (repo
         left = sofar .left .0;
         right = v .right i below;
         ready = first-ready ts js n speed i o sofar v;
-        may = first-allowed;
+        may = allowed-first ts report i o sofar a;
         job-is = first-job;
         grant-is = first-grant;
       }
@@ -138,7 +136,7 @@ module _ (ts : Tasks) (js : Jobs) (n speed : ℕ) (most : n ≤ mostTasks) (repo
   walk-turn k (i ∷ o) sofar a v m =
       go (ℕ-discrete k i)
       (walk-turn k o (settleAt ts i (getD report i 0) sofar)
-      (rest-allowed ts js n speed most report i o sofar a v) (rest-settles ts js n speed most report i o sofar a v))
+      (allowed-rest ts report i o sofar a) (rest-settles ts js n speed most report i o sofar a v))
     where
       end : Settling
       end = settleAll ts report (i ∷ o) sofar
@@ -157,5 +155,5 @@ module _ (ts : Tasks) (js : Jobs) (n speed : ℕ) (most : n ≤ mostTasks) (repo
   walk-cut (i ∷ o) sofar a v =
       let rest =
       walk-cut o (settleAt ts i (getD report i 0) sofar)
-      (rest-allowed ts js n speed most report i o sofar a v) (rest-settles ts js n speed most report i o sofar a v) in
+      (allowed-rest ts report i o sofar a) (rest-settles ts js n speed most report i o sofar a v) in
       omega (arith, rest, first-cut ts js n speed most report i o sofar a v)

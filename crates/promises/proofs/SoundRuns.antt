@@ -15,21 +15,21 @@ use Rattle.rules.specs.declared.Used.{Used}
 use Rattle.rules.specs.Words.{firstOf}
 use Rattle.rules.specs.State.{Shaped}
 use Rattle.rules.specs.Limits.{mostTasks, mostSpeeds, mostTicks}
-use Rattle.rules.specs.Choice.{speedPlace, speedOf}
+use Rattle.rules.specs.Choice.{speedOf}
 use Rattle.rules.specs.Counting.{nextOf}
 use Rattle.rules.specs.Numbers.{allDone, nowNumber, tickNumber}
 use Rattle.rules.specs.Calls.{tasksFrom, ladderFrom, freshJobs, freshTally, freshState, nowOf, tickOf, energyOf}
 use Rattle.rules.proofs.Lists.{length-upTo}
 use Rattle.rules.proofs.Soundness.{Sound, facts-sound}
-use Rattle.rules.proofs.Loads.{place-below, speed-of-most, some-carries}
+use Rattle.rules.proofs.Loads.{some-carries}
 use Rattle.rules.proofs.Fresh.{fresh-facts}
 use Rattle.rules.proofs.CallRows.{all-done, not-all-done, now-10, now-0, tick-10, tick-0, energy-accepted}
-use Rattle.rules.proofs.Keeps.{next-sound, next-shaped, entries-allowed}
+use Rattle.rules.proofs.Keeps.{taken-sound, taken-shaped}
 use Rattle.promises.specs.Runs.{Table, Call, Step, Each, started, ticked, after, stepOf, steps}
 use Rattle.promises.specs.StaysSound.{InTurn, EveryRunStaysSound}
 use Rattle.promises.proofs.StartLaws.{started-is, passed, tasks-count, start-done}
 use Rattle.promises.proofs.GoesOn.{zeros-keep}
-use Rattle.promises.proofs.RunLaws.{Taken, next, facts, step-speed, by-steps, keeps-all}
+use Rattle.promises.proofs.RunLaws.{Taken, next, step-speed, by-steps, keeps-all}
 
 -- a sound state, fact by fact, whose arrays have all their places
 pub record SoundAndShaped (s : State) : Type 0 where
@@ -39,12 +39,9 @@ pub record SoundAndShaped (s : State) : Type 0 where
 -- an accepted tick keeps it so
 pub sound-next : (s : State) (call : Call) → SoundAndShaped s → Taken s call → SoundAndShaped (next s call)
 sound-next s call kept e =
-    let f = kept .facts in
-    let room = facts s call e .room in
-    let allows = entries-allowed s (call .report) (length (call .grants)) (kept .shape) e in
     record {
-      facts = next-sound s f (kept .shape) (speedPlace s) (speedOf s) (call .report) room (place-below s f) (speed-of-most s f) allows;
-      shape = next-shaped s f (kept .shape) (speedPlace s) (speedOf s) (call .report) room (place-below s f) (speed-of-most s f) allows;
+      facts = taken-sound s (call .report) (length (call .grants)) (kept .shape) e;
+      shape = taken-shaped s (call .report) (length (call .grants)) (kept .shape) e;
     }
 
 -- the arrays of a fresh state have all their places

@@ -18,9 +18,10 @@ use Rattle.rules.proofs.Lists.{every-at}
 use Rattle.rules.proofs.Ranges.{range-from}
 use Rattle.rules.proofs.Tables.{match-same, row-failed, rows-after}
 use Rattle.rules.proofs.Totals.{total-places}
+use Rattle.rules.proofs.Loads.{total-most}
 use Rattle.promises.specs.Runs.{started, sumTo}
 use Rattle.promises.specs.TurnedAway.{HandOut, WithinTopSpeed, gets, TurnedAwayForLoad}
-use Rattle.promises.proofs.Sums.{sum-const, sum-mono, sum-below, sum-swap, sum-windows}
+use Rattle.promises.proofs.Sums.{sum-const, sum-below, sum-swap, sum-windows}
 
 -- the last row holds where its number, not 0, is the answer
 last-holds : (b : Bool) (answer : ℕ) → 0 < answer → firstOf ((b, answer) ∷ []) ≡ answer → b ≡ true
@@ -76,8 +77,7 @@ module _ (ps cs ss : List ℕ) (o : Overloaded ps cs ss) (out : HandOut) (fit : 
       omega (
         arith,
         sum-swap (λ i t. out t i) (length ps) (greatOf ps),
-        sum-mono (λ t. sumTo (length ps) (out t)) (λ t. topOf ss) (greatOf ps) (λ t l. fit t),
-        sum-const (topOf ss) (greatOf ps),
+        total-most (λ t. sumTo (length ps) (out t)) (topOf ss) (greatOf ps) (λ t. t) (λ t l. fit t),
       )
 
   -- so some task gets less than its jobs in those ticks ask for

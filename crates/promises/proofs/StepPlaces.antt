@@ -1,4 +1,4 @@
--- An accepted tick at one place: the task's grant, what it does to the job, and the job at hand after it, with its ticks to go. By whether the task is released then.
+-- A task at one place, by its job at hand and the ticks to go to its deadline: after an accepted start, and with an accepted tick in front. By whether the task is released then.
 use mathlib.Core.Path.{_≡_, refl, sym, ap, _∙_}
 use mathlib.Core.Bool.{Bool, true, false}
 use mathlib.Core.List.{List, _∷_}
@@ -8,19 +8,23 @@ use native.Mathlib.Omega.{arith}
 use lib.Dec.{eqb}
 use lib.ListN.{length, getD}
 use borrow.Author.Tests.{eqb-true, eqb-false}
-use Rattle.rules.specs.declared.Tasks.{Tasks}
 use Rattle.rules.specs.declared.Job.{Job}
 use Rattle.rules.specs.declared.State.{State}
-use Rattle.rules.specs.State.{Shaped, periodAt, jobAt}
+use Rattle.rules.specs.Limits.{mostTasks}
+use Rattle.rules.specs.State.{Shaped, periodAt, reserveAt, jobAt}
 use Rattle.rules.specs.Choice.{speedPlace, speedOf}
 use Rattle.rules.specs.Counting.{nextOf}
+use Rattle.rules.specs.Admission.{greatOf}
+use Rattle.rules.specs.Calls.{freshState}
 use Rattle.rules.proofs.Lists.{getD-upTo}
 use Rattle.rules.proofs.Stores.{withRun}
 use Rattle.rules.proofs.Releases.{afterRelease}
 use Rattle.rules.proofs.Deadlines.{due-after, release-due, due-stays, due-moves}
+use Rattle.rules.proofs.Fresh.{run-fresh, over-fresh, period-laid, reserve-laid}
 use Rattle.rules.proofs.Keeps.{jobs-right, job-after, entries-allowed}
-use Rattle.promises.specs.Runs.{Call, Step, stepOf, grantsTo, entriesOf}
-use Rattle.promises.proofs.RunLaws.{outcome, next, Taken, facts, step-grants}
+use Rattle.promises.specs.Runs.{Table, Call, Step, started, stepOf, grantsTo, entriesOf}
+use Rattle.promises.proofs.RunLaws.{outcome, next, Taken, tests-passed, step-grants}
+use Rattle.promises.proofs.StartLaws.{started-is, tasks-few}
 use Rattle.promises.proofs.Portions.{Portion, share, portion}
 
 -- the ticks to go from tick t to the deadline of a job with a period
@@ -45,7 +49,7 @@ module _ (t period : ℕ) (some : 1 ≤ period) where
       let now = eqb-true (t + period - t % period) (t + 1) (sym (release-due t period some) ∙ e) in
       (omega arith, omega (arith, due-moves t period some now))
 
-pub go-fresh : (period : ℕ) → toGo 0 period ≡ period
+go-fresh : (period : ℕ) → toGo 0 period ≡ period
 unfolding toGo
 go-fresh period = omega (arith, zero-mod period)
 
@@ -53,12 +57,30 @@ go-fresh period = omega (arith, zero-mod period)
 abbrev pub OfJob : Type 1
 OfJob = Bool → ℕ → ℕ → List ℕ → List ℕ → Type 0
 
--- that of the task at a place, which has the job j at tick t, and that of the task at a place of a state
-abbrev WithJob : OfJob → Tasks → ℕ → ℕ → Job → List ℕ → List ℕ → Type 0
-WithJob P ts i t j gs us = P (j .over) (j .run .0) (toGo t (periodAt ts i)) gs us
+-- so of the job j of a task with a period at tick t, and of the task at a place of a state
+abbrev WithJob : OfJob → ℕ → ℕ → Job → List ℕ → List ℕ → Type 0
+WithJob P period t j gs us = P (j .over) (j .run .0) (toGo t period) gs us
 
 abbrev pub Onward : OfJob → ℕ → State → List ℕ → List ℕ → Type 0
-Onward P i s gs us = WithJob P (s .tasks) i (s .done .0) (jobAt (s .tasks) (s .jobs) i) gs us
+Onward P i s gs us = WithJob P (periodAt (s .tasks) i) (s .done .0) (jobAt (s .tasks) (s .jobs) i) gs us
+
+-- after an accepted start every task has a fresh job at hand, with a whole period to go: what is said of its reserve, its period and that job
+pub fresh-onward : (P : ℕ → ℕ → OfJob) (table : Table) → started table .number ≡ 0 → (i : ℕ) → i < length (table .periods) → (gs us : List ℕ)
+    → Onward (P (reserveAt (started table .state .tasks) i) (periodAt (started table .state .tasks) i)) i (started table .state) gs us
+    → P (getD (table .reserves) i 0) (getD (table .periods) i 0) false 0 (getD (table .periods) i 0) gs us
+unfolding freshState jobAt
+fresh-onward P table e i h gs us a =
+    let great = greatOf (table .periods) in
+    let l : i < mostTasks = omega (arith, tasks-few table e) in
+    rw (
+      started-is table e,
+      reserve-laid great (table .periods) (table .reserves) i l,
+      period-laid great (table .periods) (table .reserves) i l,
+      run-fresh i l,
+      over-fresh i l,
+      go-fresh (getD (table .periods) i 0),
+    )
+    at a
 
 -- an accepted tick in front of those to come
 module _ (s : State) (call : Call) (shape : Shaped s) (e : Taken s call) (i : ℕ) (h : i < s .tasks .count) where
@@ -71,19 +93,16 @@ module _ (s : State) (call : Call) (shape : Shaped s) (e : Taken s call) (i : �
   abbrev grant : ℕ
   grant = share s (speedOf s) (call .report) i
 
-  abbrev before : Job
-  before = jobAt (s .tasks) (s .jobs) i
-
   abbrev settledThen : Job
   settledThen = jobAt (s .tasks) (outcome s call .jobs) i
 
   pub step-portion : Portion (getD (call .report) i 0) (share s (speedOf s) (call .report) i) (jobAt (s .tasks) (s .jobs) i) (jobAt (s .tasks) (outcome s call .jobs) i)
-  step-portion = portion s (facts s call e .is-sound) shape (speedOf s) (call .report) (facts s call e .lawful) i h
+  step-portion = portion s (tests-passed s call e .is-sound) shape (speedOf s) (call .report) (tests-passed s call e .lawful) i h
 
   -- the job after the tick, a fresh one where the task is released then
   job-next : jobAt (s .tasks) (next s call .jobs) i ≡ afterRelease (s .done .0 + 1) period settledThen
   job-next =
-      job-after s (jobs-right s (facts s call e .is-sound) shape) (speedOf s) (call .report)
+      job-after s (jobs-right s (tests-passed s call e .is-sound) shape) (speedOf s) (call .report)
       (entries-allowed s (call .report) (length (call .grants)) shape e) (speedPlace s) i h
 
   -- the run's own lists begin with the task's grant and its entry
@@ -104,7 +123,7 @@ module _ (s : State) (call : Call) (shape : Shaped s) (e : Taken s call) (i : �
       (due : eqb ((s .done .0 + 1) % periodAt (s .tasks) i) 0 ≡ true → (gs us : List ℕ) → P false 0 (periodAt (s .tasks) i) gs us
       → Q (jobAt (s .tasks) (s .jobs) i .over) (jobAt (s .tasks) (s .jobs) i .run .0) 1 (share s (speedOf s) (call .report) i ∷ gs) (getD (call .report) i 0 ∷ us))
     where
-      with-next : (gs us : List ℕ) → Onward P i (next s call) gs us → WithJob P (s .tasks) i (s .done .0 + 1) (afterRelease (s .done .0 + 1) period settledThen) gs us
+      with-next : (gs us : List ℕ) → Onward P i (next s call) gs us → WithJob P period (s .done .0 + 1) (afterRelease (s .done .0 + 1) period settledThen) gs us
       unfolding nextOf
       with-next gs us a = rw job-next at a
 
@@ -113,7 +132,7 @@ module _ (s : State) (call : Call) (shape : Shaped s) (e : Taken s call) (i : �
       one-tick gs us a = go (eqb ((s .done .0 + 1) % period) 0) refl
         where
           some : 1 ≤ period
-          some = facts s call e .is-sound .period-some i h
+          some = tests-passed s call e .is-sound .period-some i h
 
           go : (b : Bool) → eqb ((s .done .0 + 1) % period) 0 ≡ b → Onward Q i s (grant ∷ gs) (entry ∷ us)
           go true r =

@@ -1,48 +1,35 @@
 -- What a run adds to each speed's count and to idle: a tick's settlement shares its speed out to grants and to what is left. By the accepted ticks.
-use mathlib.Core.Path.{_≡_, refl, sym, ap, _∙_}
-use mathlib.Core.Bool.{true, cond, not}
-use mathlib.Core.List.{List, [], _∷_}
-use Prim.Native.Nat.{ℕ, suc, _+_, _-_, _≤_, _<_}
+use mathlib.Core.Path.{_≡_, sym, ap, _∙_}
+use mathlib.Core.Bool.{cond}
+use mathlib.Core.List.{List, []}
+use Prim.Native.Nat.{ℕ, _+_, _-_, _≤_, _<_}
 use native.Mathlib.Decide.{ℕ-discrete, decLt}
 use native.Mathlib.Omega.{arith}
-use lib.Dec.{eqb, ltb}
+use lib.Dec.{eqb}
 use lib.ListN.{length, getD}
 use lib.Seq.{getD-set-same, getD-set-other}
-use borrow.Author.Tests.{eq-eqb, ne-eqb, ltb-true}
+use borrow.Author.Tests.{eq-eqb, ne-eqb}
 use Rattle.units.specs.Units.{cycles}
 use Rattle.units.specs.declared.Cycles.{Cycles}
 use Rattle.rules.specs.declared.State.{State}
-use Rattle.rules.specs.Words.{upTo, total, every}
+use Rattle.rules.specs.Words.{total}
 use Rattle.rules.specs.Limits.{mostTasks}
 use Rattle.rules.specs.State.{countAt, speedAt}
 use Rattle.rules.specs.Choice.{deadlineAt, readyAt, orderOf, speedPlace, speedOf}
 use Rattle.rules.specs.Settlement.{atTickStart, settled}
 use Rattle.rules.specs.Counting.{counted, nextOf}
-use Rattle.rules.proofs.Lists.{getD-upTo}
+use Rattle.rules.proofs.Lists.{upTo-getD}
 use Rattle.rules.proofs.Totals.{total-places}
-use Rattle.rules.proofs.Orders.{every-mono, order-below}
+use Rattle.rules.proofs.Orders.{above-absent, order-below}
 use Rattle.rules.proofs.Settles.{Settles, grantsSum}
 use Rattle.rules.proofs.Keeps.{jobs-right, settles, entries-allowed}
 use Rattle.rules.proofs.Loads.{place-below, speed-of-at, speed-order}
-use Rattle.promises.specs.Runs.{Call, Step, Each, stepOf, steps, after, granted, sumTo}
+use Rattle.promises.specs.Runs.{Call, Step, Each, stepOf, steps, after, granted}
 use Rattle.promises.specs.Counts.{grantedAt}
 use Rattle.promises.proofs.RunLaws.{outcome, next, Taken, step-speed, step-grants, by-steps}
 use Rattle.promises.proofs.Sums.{sum-short}
-use Rattle.promises.proofs.SettledPlaces.{absent, grant-kept}
+use Rattle.promises.proofs.SettledPlaces.{grantAt, none-granted, grant-kept}
 use Rattle.promises.proofs.SoundRuns.{SoundAndShaped, sound-next}
-
--- a list of cycles summed over its places
-cycles-places : (l : List Cycles) → total (λ (g : Cycles). g .0) l ≡ sumTo (length l) (λ i. getD l i (cycles 0) .0)
-unfolding total upTo
-cycles-places [] = refl
-cycles-places (x ∷ l) = ap (λ y. x .0 + y) (cycles-places l ∙ sym (total-places (λ i. getD (x ∷ l) i (cycles 0) .0) suc (length l)))
-
--- a place past those of an order is not in it
-above-absent : (n k : ℕ) → n ≤ k → (o : List ℕ) → every (λ i. ltb i n) o ≡ true → absent k o ≡ true
-above-absent n k l = every-mono (λ i. ltb i n) (λ i. not (eqb i k)) differs
-  where
-    differs : (i : ℕ) → ltb i n ≡ true → not (eqb i k) ≡ true
-    differs i b = ap not (ne-eqb i k (λ (e : i ≡ k). absurd (omega (arith, ltb-true i n b))))
 
 -- one accepted tick
 module _ (s : State) (call : Call) (kept : SoundAndShaped s) (e : Taken s call) where
@@ -52,22 +39,22 @@ module _ (s : State) (call : Call) (kept : SoundAndShaped s) (e : Taken s call) 
       (entries-allowed s (call .report) (length (call .grants)) (kept .shape) e)
 
   -- the places past the tasks get nothing
-  none-past : (k : ℕ) → s .tasks .count ≤ k → k < mostTasks → getD (outcome s call .grants) k (cycles 0) .0 ≡ 0
-  unfolding settled orderOf atTickStart
+  none-past : (k : ℕ) → s .tasks .count ≤ k → k < mostTasks → grantAt (outcome s call) k ≡ 0
+  unfolding settled orderOf
   none-past k l m =
       let start = atTickStart (s .jobs) (speedOf s) in
       grant-kept (s .tasks) (call .report) k (orderOf s) start (above-absent (s .tasks .count) k l (orderOf s) (order-below (deadlineAt s) (readyAt s) (s .tasks .count)))
-      ∙ ap (λ (g : Cycles). g .0) (getD-upTo mostTasks (λ i. cycles 0) k (cycles 0) m)
+      ∙ none-granted (s .jobs) (speedOf s) k m
 
   -- so the step's grants come to what its settlement grants,
   granted-is : granted (stepOf s call) ≡ grantsSum (outcome s call)
   unfolding granted
   granted-is =
       ap (total (λ g. g)) (step-grants s call e)
-      ∙ total-places (λ g. g) (λ i. getD (outcome s call .grants) i (cycles 0) .0) (s .tasks .count)
-      ∙ sym (sum-short (λ i. getD (outcome s call .grants) i (cycles 0) .0) (s .tasks .count) mostTasks (kept .facts .tasks-most) none-past)
-      ∙ ap (λ n. sumTo n (λ i. getD (outcome s call .grants) i (cycles 0) .0)) (sym (settles-so .grants))
-      ∙ sym (cycles-places (outcome s call .grants))
+      ∙ total-places (λ g. g) (grantAt (outcome s call)) (s .tasks .count)
+      ∙ sym (sum-short (grantAt (outcome s call)) (s .tasks .count) mostTasks (kept .facts .tasks-most) none-past)
+      ∙ sym (total-places (λ (g : Cycles). g .0) (λ i. getD (outcome s call .grants) i (cycles 0)) mostTasks)
+      ∙ ap (total (λ (g : Cycles). g .0)) (upTo-getD (outcome s call .grants) mostTasks (cycles 0) (settles-so .grants))
 
   -- and with what is left to the tick's speed
   speed-shared : granted (stepOf s call) + outcome s call .left .0 ≡ stepOf s call .speed

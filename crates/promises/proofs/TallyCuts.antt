@@ -3,26 +3,25 @@ use mathlib.Core.Path.{_≡_, refl, ap}
 use mathlib.Core.List.{List, [], _∷_}
 use Prim.Native.Nat.{ℕ, _+_, _<_}
 use native.Mathlib.Omega.{arith}
-use Rattle.rules.specs.declared.Tasks.{Tasks}
 use Rattle.rules.specs.declared.State.{State}
 use Rattle.rules.specs.State.{periodAt, reserveAt, jobAt}
 use Rattle.rules.specs.Choice.{speedOf}
 use Rattle.rules.specs.Counting.{counted, nextOf}
 use Rattle.rules.proofs.Places.{run-below}
 use Rattle.promises.specs.Runs.{Call, Step, stepOf, steps, after, grantsTo, entriesOf, sumTo}
-use Rattle.promises.proofs.RunLaws.{next, Taken, facts, by-steps}
+use Rattle.promises.proofs.RunLaws.{next, Taken, tests-passed, by-steps}
 use Rattle.promises.proofs.Sums.{sum-zero, sum-add}
 use Rattle.promises.proofs.Portions.{cutAt, cut-is}
 use Rattle.promises.proofs.SoundRuns.{SoundAndShaped, sound-next}
-use Rattle.promises.proofs.StepPlaces.{OfJob, toGo, step-portion, tick-first}
+use Rattle.promises.proofs.StepPlaces.{OfJob, Onward, step-portion, tick-first}
 use Rattle.promises.proofs.CutWindows.{CutsToCome, cuts-none, cuts-on, cuts-due}
 
--- the cuts to come of the task at a place of a state, by its grants and entries from then on
-abbrev CutsOf : Tasks → ℕ → ℕ → OfJob
-CutsOf ts i cuts over run togo gs us = CutsToCome (reserveAt ts i) (periodAt ts i) over run togo gs us cuts
+-- so many cuts to come of a task, and of the task at a place of a state, by its grants and entries from then on
+abbrev pub CutsOf : ℕ → ℕ → ℕ → OfJob
+CutsOf cuts reserve period over run togo gs us = CutsToCome reserve period over run togo gs us cuts
 
 abbrev pub CutsOnward : ℕ → State → List ℕ → List ℕ → ℕ → Type 0
-CutsOnward i s gs us cuts = CutsToCome (reserveAt (s .tasks) i) (periodAt (s .tasks) i) (jobAt (s .tasks) (s .jobs) i .over) (jobAt (s .tasks) (s .jobs) i .run .0) (toGo (s .done .0) (periodAt (s .tasks) i)) gs us cuts
+CutsOnward i s gs us cuts = Onward (CutsOf cuts (reserveAt (s .tasks) i) (periodAt (s .tasks) i)) i s gs us
 
 -- with no tick there is none
 none-to-come : (s : State) → SoundAndShaped s → (i : ℕ) → i < s .tasks .count → CutsOnward i s [] [] 0
@@ -37,16 +36,18 @@ module _ (s : State) (call : Call) (kept : SoundAndShaped s) (e : Taken s call) 
   -- all tasks together
   cut-tick : next s call .tally .cut ≡ s .tally .cut + sumTo (s .tasks .count) (cutAt s (speedOf s) (call .report))
   unfolding nextOf counted
-  cut-tick = ap (λ c. s .tally .cut + c) (cut-is s (kept .facts) (kept .shape) (speedOf s) (call .report) (facts s call e .lawful))
+  cut-tick = ap (λ c. s .tally .cut + c) (cut-is s (kept .facts) (kept .shape) (speedOf s) (call .report) (tests-passed s call e .lawful))
 
   -- one task
   tick-cuts : (i : ℕ) → i < s .tasks .count → (xs : List Step) (cuts : ℕ) → CutsOnward i (next s call) (grantsTo i xs) (entriesOf i xs) cuts → CutsOnward i s (grantsTo i (stepOf s call ∷ xs)) (entriesOf i (stepOf s call ∷ xs)) (cutAt s (speedOf s) (call .report) i + cuts)
   unfolding jobAt reserveAt nextOf
   tick-cuts i h xs cuts =
       let part = step-portion s call (kept .shape) e i h in
-      tick-first s call (kept .shape) e i h (CutsOf (s .tasks) i cuts) (CutsOf (s .tasks) i (cutAt s (speedOf s) (call .report) i + cuts))
-      (λ togo gs us rest. cuts-on (periodAt (s .tasks) i) _ _ _ _ part gs us cuts togo rest)
-      (λ r gs us rest. cuts-due (periodAt (s .tasks) i) _ _ _ _ part gs us cuts rest)
+      let reserve = reserveAt (s .tasks) i in
+      let period = periodAt (s .tasks) i in
+      tick-first s call (kept .shape) e i h (CutsOf cuts reserve period) (CutsOf (cutAt s (speedOf s) (call .report) i + cuts) reserve period)
+      (λ togo gs us rest. cuts-on period _ _ _ _ part gs us cuts togo rest)
+      (λ r gs us rest. cuts-due period _ _ _ _ part gs us cuts rest)
       xs
 
 -- the cuts of a run: those of each task, and what they come to together

@@ -16,14 +16,14 @@ use Rattle.rules.specs.Load.{deadline, useOf, load}
 use Rattle.rules.specs.Choice.{readyAt, orderOf, loadOf}
 use Rattle.rules.specs.Settlement.{allAllowed, atTickStart, settled}
 use Rattle.rules.specs.Counting.{counted, nextOf}
-use Rattle.rules.proofs.Totals.{total-places}
+use Rattle.rules.proofs.Totals.{total-places, total-mono}
 use Rattle.rules.proofs.GreatLaws.{great-whole, great-some}
 use Rattle.rules.proofs.Settles.{Settles}
 use Rattle.rules.proofs.Releases.{afterRelease, lates, releases-late-is}
 use Rattle.rules.proofs.Keeps.{settles, job-after, jobs-after}
 use Rattle.promises.specs.Runs.{sumTo}
 use Rattle.promises.specs.NeverLate.{OverAtRelease, owedAt, roomAt, Covered, TasksRight}
-use Rattle.promises.proofs.Sums.{sum-zero, zero-sum, sum-same, sum-mono, sum-add, sum-below}
+use Rattle.promises.proofs.Sums.{sum-zero, zero-sum, sum-same, sum-add, sum-below}
 use Rattle.promises.proofs.Books.{right-jobs, owes, room, owed-is, room-is}
 use Rattle.promises.proofs.Renews.{owing-open, room-none, tick-spends, owes-none-over, release-renews}
 use Rattle.promises.proofs.Pays.{settled-pays}
@@ -82,7 +82,7 @@ rooms-spent s d =
       arith,
       load-sum s,
       sum-add (rooms s (s .jobs) (s .done .0 + 1) d) (spends s) (s .tasks .count),
-      sum-mono (rooms s (s .jobs) (s .done .0) d) (λ i. rooms s (s .jobs) (s .done .0 + 1) d i + spends s i) (s .tasks .count)
+      total-mono (rooms s (s .jobs) (s .done .0) d) (λ i. rooms s (s .jobs) (s .done .0 + 1) d i + spends s i) (s .tasks .count)
           (λ i l. tick-spends (s .tasks .great .0) (s .done .0) d (jobAt (s .tasks) (s .jobs) i)),
     )
 
@@ -179,7 +179,7 @@ module _ (s : State) (r : TasksRight s) (covered : Covered s) (speed : ℕ) (rep
           settled-in-order d,
           sum-add (owing s′ (s′ .jobs) d) (rooms s js t′ d) n,
           sum-add (rooms s′ (s′ .jobs) t′ d) (owing s js d) n,
-          sum-mono (λ i. owing s′ (s′ .jobs) d i + rooms s js t′ d i) (λ i. rooms s′ (s′ .jobs) t′ d i + owing s js d i) n (renews-then d),
+          total-mono (λ i. owing s′ (s′ .jobs) d i + rooms s js t′ d i) (λ i. rooms s′ (s′ .jobs) t′ d i + owing s js d i) n (renews-then d),
         ))
 
     -- the tasks are the same, and their jobs are right again

@@ -1,26 +1,30 @@
--- A task's grants and entries, cut into the windows of its jobs: a tick in front is a portion of the job at hand, and its last one ends its window.
+-- A task's grants and entries, window by window of its jobs: a tick in front is a portion of the job at hand, and its last one ends its window.
 use mathlib.Core.Path.{_≡_, refl, sym, ap, _∙_}
 use mathlib.Core.Bool.{Bool, true, false, false≢true}
 use mathlib.Core.List.{List, [], _∷_}
 use Prim.Native.Nat.{ℕ, zero, suc, _+_, _-_, _*_, _≤_}
-use native.Mathlib.Nat.{zero-mul, suc-mul, add-comm}
+use native.Mathlib.Nat.{zero-mul, suc-mul, add-comm, le-trans, le-mul-of-pos-right}
 use native.Mathlib.Decide.{ℕ-discrete}
 use native.Mathlib.Omega.{arith}
 use lib.Dec.{eqb}
-use lib.ListN.{length, take, drop, length-drop}
-use lib.Seq.{take-nil, drop-nil, drop-drop}
+use lib.ListN.{length, take, drop, length-drop, drop-of-length-le}
+use lib.Seq.{take-nil, drop-drop}
 use borrow.Author.Tests.{eqb-true, eq-eqb, ne-eqb}
 use Rattle.rules.specs.declared.Job.{Job}
 use Rattle.rules.specs.Words.{total}
 use Rattle.promises.specs.ExactCycles.{windowOf, finishes, dueTo, Served}
 use Rattle.promises.proofs.Portions.{Portion}
 
+-- a job at hand that is over gets nothing more in its ticks to go: no grant and no finish
+abbrev pub NothingMore : Bool → ℕ → List ℕ → List ℕ → Type 0
+NothingMore over togo grants entries = over ≡ true → (total (λ g. g) (take togo grants) ≡ 0) × (finishes (take togo entries) ≡ [])
+
 -- The job at hand, by the grants and entries of its ticks to go to the deadline: at most one finish, no more than is left of its reserve, nothing
 -- where it is over already, and exactly its cycles where it is not and those ticks all lie in the run.
 pub record AtHand (reserve : ℕ) (over : Bool) (run togo : ℕ) (grants entries : List ℕ) : Type 0 where
   pub once : length (finishes (take togo entries)) ≤ 1
   pub never-more : total (λ g. g) (take togo grants) ≤ reserve - run
-  pub nothing-more : over ≡ true → (total (λ g. g) (take togo grants) ≡ 0) × (finishes (take togo entries) ≡ [])
+  pub nothing-more : NothingMore over togo grants entries
   pub exactly : over ≡ false → togo ≤ length grants → run + total (λ g. g) (take togo grants) ≡ dueTo reserve (finishes (take togo entries))
 
 -- a task: its job at hand, and each of the jobs after that
@@ -37,7 +41,15 @@ pub finishes-u : (u : ℕ) (us : List ℕ) → (u ≡ 0 → ⊥) → finishes (u
 unfolding finishes
 finishes-u u us n = rw (ne-eqb u 0 n)
 
--- one tick in front, which takes the job j to the job k
+-- one tick in front, which takes the job j to the job k: where j was over there was nothing in it either
+pub nothing-before : (u g : ℕ) (j k : Job) → Portion u g j k → (togo : ℕ) (gs us : List ℕ) → NothingMore (k .over) togo gs us → NothingMore (j .over) (suc togo) (g ∷ gs) (u ∷ us)
+unfolding total
+nothing-before u g j k portion togo gs us nothing o =
+    let now = portion .was-over o in
+    let more = nothing (now .2) in
+    (omega (arith, now .0, more .0), finishes-0 u (take togo us) (now .1) ∙ more .1)
+
+-- and the job at hand with it
 module _ (u g : ℕ) (j k : Job) (portion : Portion u g j k) (togo : ℕ) (gs us : List ℕ) (rest : AtHand (j .reserve .0) (k .over) (k .run .0) togo gs us) where
   abbrev OneMore : Type 0
   OneMore = AtHand (j .reserve .0) (j .over) (j .run .0) (suc togo) (g ∷ gs) (u ∷ us)
@@ -46,16 +58,16 @@ module _ (u g : ℕ) (j k : Job) (portion : Portion u g j k) (togo : ℕ) (gs us
   unfolding total
   within-reserve = omega (arith, portion .run-is, portion .within, rest .never-more)
 
+  none-before : NothingMore (j .over) (suc togo) (g ∷ gs) (u ∷ us)
+  none-before = nothing-before u g j k portion togo gs us (rest .nothing-more)
+
   -- the job was over: nothing now, and nothing more
   one-more-over : j .over ≡ true → OneMore
-  unfolding total
   one-more-over o =
-      let now = portion .was-over o in
-      let more = rest .nothing-more (now .2) in
       record {
-        once = rw (finishes-0 u (take togo us) (now .1)) (rest .once);
+        once = rw (finishes-0 u (take togo us) (portion .was-over o .1)) (rest .once);
         never-more = within-reserve;
-        nothing-more = λ _. (omega (arith, now .0, more .0), finishes-0 u (take togo us) (now .1) ∙ more .1);
+        nothing-more = none-before;
         exactly = λ n. absurd (false≢true (sym n ∙ o));
       }
 
@@ -75,7 +87,7 @@ module _ (u g : ℕ) (j k : Job) (portion : Portion u g j k) (togo : ℕ) (gs us
       record {
         once = rw (finishes-0 u (take togo us) z) (rest .once);
         never-more = within-reserve;
-        nothing-more = λ o. absurd (false≢true (sym n ∙ o));
+        nothing-more = none-before;
         exactly = λ _ h. rw (finishes-0 u (take togo us) z) (exactly-0 n z (omega arith));
       }
 
@@ -88,7 +100,7 @@ module _ (u g : ℕ) (j k : Job) (portion : Portion u g j k) (togo : ℕ) (gs us
       record {
         once = rw (finishes-u u (take togo us) some, more .1) (omega arith);
         never-more = within-reserve;
-        nothing-more = λ o. absurd (false≢true (sym n ∙ o));
+        nothing-more = none-before;
         exactly = λ _ h. rw (finishes-u u (take togo us) some) (omega (arith, now .0, more .0));
       }
 
@@ -143,17 +155,19 @@ pub all-served : (reserve period : ℕ) (gs us : List ℕ) → Ahead reserve per
 all-served reserve period gs us a zero = first-served reserve period gs us (a .at-hand)
 all-served reserve period gs us a (suc job) = later-served reserve period job gs us (a .later job)
 
--- before any tick
-window-none : (period job : ℕ) → windowOf period job [] ≡ []
+-- past the run a window is empty
+pub window-past : (period job : ℕ) → 1 ≤ period → (l : List ℕ) → length l ≤ job → windowOf period job l ≡ []
 unfolding windowOf
-window-none period job = ap (take period) (drop-nil (job * period)) ∙ take-nil period
+window-past period job some l h =
+    ap (take period) (drop-of-length-le l (le-trans h (le-mul-of-pos-right job some))) ∙ take-nil period
 
+-- before any tick
 served-none : (reserve period job : ℕ) → 1 ≤ period → Served reserve period job [] []
 unfolding finishes total
 served-none reserve period job some =
     record {
-      once = rw (window-none period job) (omega arith);
-      never-more = rw (window-none period job) (omega arith);
+      once = rw (window-past period job some [] (omega arith)) (omega arith);
+      never-more = rw (window-past period job some [] (omega arith)) (omega arith);
       exactly = λ h. absurd (omega arith);
     }
 

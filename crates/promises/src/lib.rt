@@ -9,7 +9,7 @@
 //   TurnedAway   demand 3: where start answers 8, every way to run the table starves a job   (Starves)
 //   PaperTest    demand 2: Figures 1 and 4, the lowest speed, the earliest deadline   (Fractions, NowTells)
 //   Counts       demand 2: every count is drawn from the grants   (Tallies, TallyEnergy, CutWindows, TallyCuts, CountsProof)
-//   StaysSound   a run never meets 9   (SoundRuns)
+//   StaysSound   a run never meets 9 or 12, and goes on to its last tick   (GoesOn, SoundRuns)
 //   EitherSide   document 01's table (a) to (l)   (EitherSideRows)
 //
 // Sums has the laws of sums over places. That each call has one answer is proved in the crate answers.

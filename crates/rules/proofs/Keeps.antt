@@ -22,7 +22,7 @@ use Rattle.rules.specs.Settlement.{atTickStart, settled, allAllowed, ove
 use Rattle.rules.specs.Counting.{counted, nextOf}
 use Rattle.rules.specs.Numbers.{runRight, unusedSpeed, sound, tickNumber}
 use Rattle.rules.specs.Calls.{tickOf}
-use Rattle.rules.proofs.Lists.{both-right}
+use Rattle.rules.proofs.Lists.{both-left, both-right}
 use Rattle.rules.proofs.Orders.{order-below, order-apart, order-short, order-ready}
 use Rattle.rules.proofs.Stores.{withRun}
 use Rattle.rules.proofs.Totals.{total-set}
@@ -40,6 +40,16 @@ released-right t p j some r = go (eqb (t % p) 0)
     go : (b : Bool) → runRight (cond b (withRun j 0 false) j) ≡ true
     go true = lt-ltb 0 (j .reserve .0) some
     go false = r
+
+-- both halves of rule 4: a job that is over has entry 0, and the entries of the ready ones are allowed
+module _ (s : State) (speed : ℕ) (report : List ℕ) (lawful : keepsRule4 s speed report ≡ true) where
+  pub over-zeros : overEntriesZero (s .tasks) (s .jobs) report ≡ true
+  unfolding keepsRule4
+  over-zeros = both-left (overEntriesZero (s .tasks) (s .jobs) report) (allAllowed (s .tasks) report (orderOf s) (atTickStart (s .jobs) speed)) lawful
+
+  pub all-allowed : allAllowed (s .tasks) report (orderOf s) (atTickStart (s .jobs) speed) ≡ true
+  unfolding keepsRule4
+  all-allowed = both-right (overEntriesZero (s .tasks) (s .jobs) report) (allAllowed (s .tasks) report (orderOf s) (atTickStart (s .jobs) speed)) lawful
 
 -- what a settlement asks of the jobs of a state: each has its place, and its run count is right
 pub record JobsRight (s : State) : Type 0 where
@@ -169,18 +179,23 @@ module _ (s : State) (report : List ℕ) (places : ℕ) (shape : Shaped s) (e : 
   taken = accepted s report places e
 
   pub entries-allowed : allAllowed (s .tasks) report (orderOf s) (atTickStart (s .jobs) (speedOf s)) ≡ true
-  unfolding keepsRule4
-  entries-allowed = both-right (overEntriesZero (s .tasks) (s .jobs) report) (allAllowed (s .tasks) report (orderOf s) (atTickStart (s .jobs) (speedOf s))) (taken .lawful)
+  entries-allowed = all-allowed s (speedOf s) report (taken .lawful)
+
+  pub taken-sound : Sound (nextOf s (speedPlace s) (settled s (speedOf s) report))
+  taken-sound =
+      let f = taken .is-sound in
+      next-sound s f shape (speedPlace s) (speedOf s) report (taken .room) (place-below s f) (speed-of-most s f) entries-allowed
+
+  pub taken-shaped : Shaped (nextOf s (speedPlace s) (settled s (speedOf s) report))
+  taken-shaped =
+      let f = taken .is-sound in
+      next-shaped s f shape (speedPlace s) (speedOf s) report (taken .room) (place-below s f) (speed-of-most s f) entries-allowed
 
   after-is : nextOf s (speedPlace s) (settled s (speedOf s) report) ≡ tickOf s report places .state
   after-is = ap (λ (r : Ticked). r .state) (tick-accepted s report places e)
 
   pub tick-sound : sound (tickOf s report places .state) ≡ true
-  tick-sound =
-      rw (← after-is)
-      (facts-sound _ (next-sound s (taken .is-sound) shape (speedPlace s) (speedOf s) report (taken .room) (place-below s (taken .is-sound)) (speed-of-most s (taken .is-sound)) entries-allowed))
+  tick-sound = rw (← after-is) (facts-sound _ taken-sound)
 
   pub tick-shaped : Shaped (tickOf s report places .state)
-  tick-shaped =
-      rw (← after-is)
-      (next-shaped s (taken .is-sound) shape (speedPlace s) (speedOf s) report (taken .room) (place-below s (taken .is-sound)) (speed-of-most s (taken .is-sound)) entries-allowed)
+  tick-shaped = rw (← after-is) taken-shaped

@@ -149,15 +149,24 @@ module _ (ts : Tasks) (js : Jobs) (n speed : ℕ) (i u : ℕ) (o : List ℕ) (so
         cuts = still-cuts;
       }
 
+-- where every entry of an order is allowed, the first one is, and those of the rest after its turn
+module _ (ts : Tasks) (report : List ℕ) (i : ℕ) (o : List ℕ) (sofar : Settling) (a : allAllowed ts report (i ∷ o) sofar ≡ true) where
+  pub allowed-first : allowed (sofar .left .0) (getD report i 0) (jobAt ts (sofar .jobs) i) ≡ true
+  unfolding allAllowed
+  allowed-first = both-left (allowed (sofar .left .0) (getD report i 0) (jobAt ts (sofar .jobs) i)) (allAllowed ts report o (settleAt ts i (getD report i 0) sofar)) a
+
+  pub allowed-rest : allAllowed ts report o (settleAt ts i (getD report i 0) sofar) ≡ true
+  unfolding allAllowed
+  allowed-rest = both-right (allowed (sofar .left .0) (getD report i 0) (jobAt ts (sofar .jobs) i)) (allAllowed ts report o (settleAt ts i (getD report i 0) sofar)) a
+
 -- the whole order settled, where every entry is allowed
 pub settles-all : (ts : Tasks) (js : Jobs) (n speed : ℕ) (report o : List ℕ) (sofar : Settling) → n ≤ mostTasks → allAllowed ts report o sofar ≡ true → Settles ts js n speed o sofar → Settles ts js n speed [] (settleAll ts report o sofar)
-unfolding settleAll allAllowed
+unfolding settleAll
 settles-all ts js n speed report [] sofar m a v = v
 settles-all ts js n speed report (i ∷ o) sofar m a v =
     let u = getD report i 0 in
-    let first : allowed (sofar .left .0) u (jobAt ts (sofar .jobs) i) ≡ true = both-left (allowed (sofar .left .0) u (jobAt ts (sofar .jobs) i)) (allAllowed ts report o (settleAt ts i u sofar)) a in
-    let rest : allAllowed ts report o (settleAt ts i u sofar) ≡ true = both-right (allowed (sofar .left .0) u (jobAt ts (sofar .jobs) i)) (allAllowed ts report o (settleAt ts i u sofar)) a in
-    settles-all ts js n speed report o (settleAt ts i u sofar) m rest (settles-job ts js n speed i u o sofar m v first)
+    settles-all ts js n speed report o (settleAt ts i u sofar) m (allowed-rest ts report i o sofar a)
+    (settles-job ts js n speed i u o sofar m v (allowed-first ts report i o sofar a))
 
 -- at the tick's start, for an order of ready tasks below n, all different
 module _ (ts : Tasks) (js : Jobs) (n speed : ℕ) (o : List ℕ) where
