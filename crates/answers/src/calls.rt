@@ -6,58 +6,58 @@ use rules::Ticked;
 use rules::Told;
 use rules::Used;
 
-pub(crate) struct Starts {
+pub(crate) struct TwoStarted {
     pub(crate) first: Started,
     pub(crate) second: Started,
 }
 
-pub(crate) struct Tells {
+pub(crate) struct TwoTold {
     pub(crate) first: Told,
     pub(crate) second: Told,
 }
 
-pub(crate) struct Ticks {
+pub(crate) struct TwoTicked {
     pub(crate) first: Ticked,
     pub(crate) second: Ticked,
 }
 
-pub(crate) struct Uses {
+pub(crate) struct TwoUsed {
     pub(crate) first: Used,
     pub(crate) second: Used,
 }
 
-pub(crate) fn start(periods: &[u64], reserves: &[u64], speeds: &[u64], volts: &[u64]) -> Starts
+pub(crate) fn start(periods: &[u64], reserves: &[u64], speeds: &[u64], volts: &[u64]) -> TwoStarted
     ensures { λ r. ⌜ r .first ≡ r .second ⌝ }
 {
-    Starts {
+    TwoStarted {
         first: governor::start(periods, reserves, speeds, volts),
         second: governor::start(periods, reserves, speeds, volts),
     }
 }
 
-pub(crate) fn now(state: State) -> Tells
+pub(crate) fn now(state: State) -> TwoTold
     ensures { λ r. ⌜ r .first ≡ r .second ⌝ }
 {
-    Tells {
+    TwoTold {
         first: governor::now(state),
         second: governor::now(state),
     }
 }
 
-pub(crate) fn tick(state: State, report: &[u64], grants: &mut [u64], again: &mut [u64]) -> Ticks
+pub(crate) fn tick(state: State, report: &[u64], grants: &mut [u64], again: &mut [u64]) -> TwoTicked
     requires { ⌜ now grants ≡ now again ⌝ }
     ensures { λ r. ⌜ (r .first ≡ r .second) × (now (grants .exit) ≡ now (again .exit)) ⌝ }
 {
-    Ticks {
+    TwoTicked {
         first: governor::tick(state, report, grants),
         second: governor::tick(state, report, again),
     }
 }
 
-pub(crate) fn energy(state: State) -> Uses
+pub(crate) fn energy(state: State) -> TwoUsed
     ensures { λ r. ⌜ r .first ≡ r .second ⌝ }
 {
-    Uses {
+    TwoUsed {
         first: governor::energy(state),
         second: governor::energy(state),
     }

@@ -16,155 +16,155 @@ use units::Cycles;
 use units::Speed;
 use units::Ticks;
 
-pub(crate) struct Counts {
+pub(crate) struct TwoCycles {
     pub(crate) first: Cycles,
     pub(crate) second: Cycles,
 }
 
-pub(crate) struct Tests {
+pub(crate) struct TwoTests {
     pub(crate) first: bool,
     pub(crate) second: bool,
 }
 
-pub(crate) struct Reads {
+pub(crate) struct TwoJobs {
     pub(crate) first: Job,
     pub(crate) second: Job,
 }
 
-pub(crate) struct Verdicts {
+pub(crate) struct TwoVerdicts {
     pub(crate) first: Verdict,
     pub(crate) second: Verdict,
 }
 
-pub(crate) struct Beginnings {
+pub(crate) struct TwoStarted {
     pub(crate) first: Started,
     pub(crate) second: Started,
 }
 
-pub(crate) struct Deadlines {
+pub(crate) struct TwoDues {
     pub(crate) first: Dues,
     pub(crate) second: Dues,
 }
 
-pub(crate) struct Orders {
+pub(crate) struct TwoOrders {
     pub(crate) first: Order,
     pub(crate) second: Order,
 }
 
-pub(crate) struct Choices {
+pub(crate) struct TwoChoices {
     pub(crate) first: Choice,
     pub(crate) second: Choice,
 }
 
-pub(crate) struct Places {
+pub(crate) struct TwoPlaces {
     pub(crate) first: usize,
     pub(crate) second: usize,
 }
 
-pub(crate) struct Outcomes {
+pub(crate) struct TwoSettled {
     pub(crate) first: Settled,
     pub(crate) second: Settled,
 }
 
-pub(crate) struct Surveys {
+pub(crate) struct TwoSurveyed {
     pub(crate) first: Surveyed,
     pub(crate) second: Surveyed,
 }
 
-pub(crate) fn cycles_in(speed: Speed, ticks: Ticks) -> Counts
+pub(crate) fn cycles_in(speed: Speed, ticks: Ticks) -> TwoCycles
     ensures { λ r. ⌜ r .first ≡ r .second ⌝ }
 {
-    Counts {
+    TwoCycles {
         first: units::cycles_in(speed, ticks),
         second: units::cycles_in(speed, ticks),
     }
 }
 
-pub(crate) fn carries(speed: Speed, ticks: Ticks, load: Cycles) -> Tests
+pub(crate) fn carries(speed: Speed, ticks: Ticks, load: Cycles) -> TwoTests
     ensures { λ r. ⌜ r .first ≡ r .second ⌝ }
 {
-    Tests {
+    TwoTests {
         first: units::carries(speed, ticks, load),
         second: units::carries(speed, ticks, load),
     }
 }
 
-pub(crate) fn job_at(tasks: Tasks, jobs: Jobs, i: usize) -> Reads
+pub(crate) fn job_at(tasks: Tasks, jobs: Jobs, i: usize) -> TwoJobs
     ensures { λ r. ⌜ r .first ≡ r .second ⌝ }
 {
-    Reads {
+    TwoJobs {
         first: rules::job_at(tasks, jobs, i),
         second: rules::job_at(tasks, jobs, i),
     }
 }
 
-pub(crate) fn judge(periods: &[u64], reserves: &[u64], speeds: &[u64], volts: &[u64]) -> Verdicts
+pub(crate) fn judge(periods: &[u64], reserves: &[u64], speeds: &[u64], volts: &[u64]) -> TwoVerdicts
     ensures { λ r. ⌜ r .first ≡ r .second ⌝ }
 {
-    Verdicts {
+    TwoVerdicts {
         first: admission::judge(periods, reserves, speeds, volts),
         second: admission::judge(periods, reserves, speeds, volts),
     }
 }
 
-pub(crate) fn start(periods: &[u64], reserves: &[u64], speeds: &[u64], volts: &[u64]) -> Beginnings
+pub(crate) fn start(periods: &[u64], reserves: &[u64], speeds: &[u64], volts: &[u64]) -> TwoStarted
     ensures { λ r. ⌜ r .first ≡ r .second ⌝ }
 {
-    Beginnings {
+    TwoStarted {
         first: starting::start(periods, reserves, speeds, volts),
         second: starting::start(periods, reserves, speeds, volts),
     }
 }
 
-pub(crate) fn dues_of(done: Ticks, tasks: Tasks) -> Deadlines
+pub(crate) fn dues_of(done: Ticks, tasks: Tasks) -> TwoDues
     ensures { λ r. ⌜ r .first ≡ r .second ⌝ }
 {
-    Deadlines {
+    TwoDues {
         first: choosing::dues_of(done, tasks),
         second: choosing::dues_of(done, tasks),
     }
 }
 
-pub(crate) fn order_of(dues: Dues, jobs: Jobs, count: usize) -> Orders
+pub(crate) fn order_of(dues: Dues, jobs: Jobs, count: usize) -> TwoOrders
     ensures { λ r. ⌜ r .first ≡ r .second ⌝ }
 {
-    Orders {
+    TwoOrders {
         first: choosing::order_of(dues, jobs, count),
         second: choosing::order_of(dues, jobs, count),
     }
 }
 
-pub(crate) fn earliest(dues: Dues, jobs: Jobs, count: usize) -> Choices
+pub(crate) fn earliest(dues: Dues, jobs: Jobs, count: usize) -> TwoChoices
     ensures { λ r. ⌜ r .first ≡ r .second ⌝ }
 {
-    Choices {
+    TwoChoices {
         first: choosing::earliest(dues, jobs, count),
         second: choosing::earliest(dues, jobs, count),
     }
 }
 
-pub(crate) fn lowest_place(ladder: Ladder, great: Ticks, load: Cycles) -> Places
+pub(crate) fn lowest_place(ladder: Ladder, great: Ticks, load: Cycles) -> TwoPlaces
     ensures { λ r. ⌜ r .first ≡ r .second ⌝ }
 {
-    Places {
+    TwoPlaces {
         first: choosing::lowest_place(ladder, great, load),
         second: choosing::lowest_place(ladder, great, load),
     }
 }
 
-pub(crate) fn settle(tasks: Tasks, jobs: Jobs, dues: Dues, speed: Speed, report: &[u64]) -> Outcomes
+pub(crate) fn settle(tasks: Tasks, jobs: Jobs, dues: Dues, speed: Speed, report: &[u64]) -> TwoSettled
     ensures { λ r. ⌜ r .first ≡ r .second ⌝ }
 {
-    Outcomes {
+    TwoSettled {
         first: settlement::settle(tasks, jobs, dues, speed, report),
         second: settlement::settle(tasks, jobs, dues, speed, report),
     }
 }
 
-pub(crate) fn survey(state: State) -> Surveys
+pub(crate) fn survey(state: State) -> TwoSurveyed
     ensures { λ r. ⌜ r .first ≡ r .second ⌝ }
 {
-    Surveys {
+    TwoSurveyed {
         first: soundness::survey(state),
         second: soundness::survey(state),
     }

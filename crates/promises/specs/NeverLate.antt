@@ -16,7 +16,7 @@ use Rattle.rules.specs.Admission.{greatOf}
 use Rattle.rules.specs.Numbers.{runRight}
 use Rattle.promises.specs.Runs.{Table, Call, Step, Each, started, after, steps, sumTo}
 
--- Rule 5. Once a tick at a speed is settled, the job of every task whose period divides the new t, and so is released then, is over.
+-- Rule 5. Once a tick at a speed is settled, every task that is released at the new t, since its period divides that, has its job over.
 unfoldable pub OverAtRelease : State → ℕ → List ℕ → Type 0
 OverAtRelease s speed report =
     (i : ℕ) → i < s .tasks .count → eqb ((s .done .0 + 1) % periodAt (s .tasks) i) 0 ≡ true
@@ -57,7 +57,7 @@ pub record TasksRight (s : State) : Type 0 where
   pub runs : length (s .jobs .run) ≡ mostTasks
   pub marks : length (s .jobs .over) ≡ mostTasks
 
--- A fresh start has both.
+-- Both together; a fresh start has them.
 pub record OnCourse (s : State) : Type 0 where
   pub tasks-right : TasksRight s
   pub covered : Covered s
