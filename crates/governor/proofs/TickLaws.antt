@@ -18,15 +18,14 @@ use Rattle.rules.specs.Words.{upTo, total}
 use Rattle.rules.specs.Limits.{mostSpeeds, mostSpeed, mostTicks}
 use Rattle.rules.specs.State.{Shaped, periodAt, speedAt, countAt, jobAt, topOf, speedsOf}
 use Rattle.rules.specs.Load.{deadline, carries}
-use Rattle.rules.specs.Choice.{deadlineAt, orderOf, lowest, loadOf, speedPlace, speedOf}
-use Rattle.rules.specs.Settlement.{atTickStart, settled, allAllowed, overEntriesZero, keepsRule4}
+use Rattle.rules.specs.Choice.{deadlineAt, lowest, loadOf, speedPlace, speedOf}
+use Rattle.rules.specs.Settlement.{atTickStart, settled, keepsRule4}
 use Rattle.rules.specs.Numbers.{sound, tickNumber}
 use Rattle.rules.specs.Calls.{tickOf, grantsOf}
-use Rattle.rules.proofs.Lists.{both-right}
 use Rattle.rules.proofs.Soundness.{Sound}
 use Rattle.rules.proofs.Deadlines.{release-due}
 use Rattle.rules.proofs.Settles.{Settles}
-use Rattle.rules.proofs.Keeps.{jobs-right, settles}
+use Rattle.rules.proofs.Keeps.{all-allowed, jobs-right, settles}
 use Rattle.rules.proofs.CallRows.{tick-refused, grants-kept}
 use Rattle.rules.proofs.Loads.{place-below, speed-of-at, speed-of-most, top-limit}
 use Rattle.choosing.specs.Choosing.{duesOf, dueIn, orderIn}
@@ -121,9 +120,9 @@ module _ (s : State) (f : Sound s) where
 
   -- a tick that keeps rule 4 can be counted
   pub steps : Shaped s → s .done .0 < mostTicks → (report : List ℕ) → keepsRule4 s (speedOf s) report ≡ true → Steps s (speedPlace s) (speed (speedOf s)) (duesOf (s .done .0) (s .tasks)) (settled s (speedOf s) report)
-  unfolding keepsRule4 countAt
+  unfolding countAt
   steps shape room report lawful =
-      let allows = both-right (overEntriesZero (s .tasks) (s .jobs) report) (allAllowed (s .tasks) report (orderOf s) (atTickStart (s .jobs) (speedOf s))) lawful in
+      let allows = all-allowed s (speedOf s) report lawful in
       let done-so : Settles (s .tasks) (s .jobs) (s .tasks .count) (speedOf s) [] (settled s (speedOf s) report) = settles s (jobs-right s f shape) (speedOf s) report allows in
       let most : s .done .0 * topOf (speedsOf (s .ladder)) ≤ mostTicks * mostSpeed = mul-le-mul (f .done-most) (top-limit s f) in
       let fast : speedOf s ≤ mostSpeed = omega (arith, speed-of-most s f, top-limit s f) in
