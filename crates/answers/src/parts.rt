@@ -152,7 +152,13 @@ pub(crate) fn lowest_place(ladder: Ladder, great: Ticks, load: Cycles) -> TwoPla
     }
 }
 
-pub(crate) fn settle(tasks: Tasks, jobs: Jobs, dues: Dues, speed: Speed, report: &[u64]) -> TwoSettled
+pub(crate) fn settle(
+    tasks: Tasks,
+    jobs: Jobs,
+    dues: Dues,
+    speed: Speed,
+    report: &[u64],
+) -> TwoSettled
     ensures { λ r. ⌜ r .first ≡ r .second ⌝ }
 {
     TwoSettled {

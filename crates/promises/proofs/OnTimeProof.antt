@@ -48,7 +48,6 @@ sound-right s kept =
     record {
       few = f .tasks-most;
       period-some = f .period-some;
-      reserve-some = f .reserve-some;
       great-is = f .great-is;
       run-right = f .run-right;
       runs = kept .shape .runs;

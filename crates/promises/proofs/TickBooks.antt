@@ -186,11 +186,10 @@ module _ (s : State) (r : TasksRight s) (covered : Covered s) (speed : ℕ) (rep
     pub right-then : TasksRight (later s speed report place)
     unfolding nextOf
     right-then =
-        let jobs = jobs-after s (right-jobs s r) speed report lawful (r .reserve-some) place in
+        let jobs = jobs-after s (right-jobs s r) speed report lawful place in
         record {
           few = r .few;
           period-some = r .period-some;
-          reserve-some = r .reserve-some;
           great-is = r .great-is;
           run-right = jobs .right;
           runs = jobs .runs;

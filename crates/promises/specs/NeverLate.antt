@@ -7,7 +7,7 @@ use lib.Dec.{eqb, leb}
 use lib.ListN.{length}
 use Rattle.rules.specs.declared.State.{State}
 use Rattle.rules.specs.Limits.{mostTasks}
-use Rattle.rules.specs.State.{periodAt, reserveAt, jobAt, periodsOf}
+use Rattle.rules.specs.State.{periodAt, jobAt, periodsOf}
 use Rattle.rules.specs.Load.{useOf}
 use Rattle.rules.specs.Choice.{deadlineAt, readyAt, loadOf}
 use Rattle.rules.specs.Settlement.{remaining, settled, keepsRule4}
@@ -46,12 +46,11 @@ roomAt s d i =
 unfoldable pub Covered : State → Type 0
 Covered s = (d : ℕ) → sumTo (s .tasks .count) (owedAt s d) ≤ sumTo (s .tasks .count) (roomAt s d)
 
--- What the step below asks of a state beside that, and keeps: at most 16 tasks, no period and no reserve 0, H right, a place for each job, and each run count
+-- What the step below asks of a state beside that, and keeps: at most 16 tasks, no period that is 0, H right, a place for each job, and each run count
 -- right. It asks nothing of the speeds, the counts or t.
 pub record TasksRight (s : State) : Type 0 where
   pub few : s .tasks .count ≤ mostTasks
   pub period-some : (i : ℕ) → i < s .tasks .count → 1 ≤ periodAt (s .tasks) i
-  pub reserve-some : (i : ℕ) → i < s .tasks .count → 1 ≤ reserveAt (s .tasks) i
   pub great-is : s .tasks .great .0 ≡ greatOf (periodsOf (s .tasks))
   pub run-right : (i : ℕ) → i < s .tasks .count → runRight (jobAt (s .tasks) (s .jobs) i) ≡ true
   pub runs : length (s .jobs .run) ≡ mostTasks

@@ -19,7 +19,7 @@ pub record CommonMultiple (multiple : ℕ) (periods : List ℕ) : Type 0 where
   pub some : 0 < multiple
   pub of-each : (k : ℕ) → k < length periods → getD periods k 0 ∣ multiple
 
--- Figure 1, EDF: C1 / P1 + .. + Cn / Pn is at most the speed. Both sides times any common multiple of the periods, it is the same test as times H.
+-- Figure 1, EDF: C1 / P1 + .. + Cn / Pn is at most the speed. With both sides multiplied by any common multiple of the periods, it is the same test as with H.
 unfoldable pub Figure1 : Type 0
 Figure1 =
     (periods reserves : List ℕ) (multiple : ℕ) → CommonMultiple multiple periods

@@ -1,4 +1,4 @@
--- A run never meets 9, nor 12: what start accepts is sound, and every call of tick keeps it so. And it goes on: until 1,000,000,000 ticks are accepted a report of zeros is, and 10 is not answered.
+-- A run never meets 9, nor 12: what start accepts is sound, and every call of tick keeps it so. And it goes on: until 1,000,000,000 ticks are accepted, a report of zeros of the right length is accepted and 10 is never answered.
 use Prim.Native.Nat.{ℕ, _+_, _<_}
 use mathlib.Core.Path.{_≡_}
 use mathlib.Core.Bool.{true, cond}

@@ -16,7 +16,7 @@ use Rattle.rules.specs.declared.State.{State}
 use Rattle.rules.specs.declared.Ticked.{Ticked}
 use Rattle.rules.specs.Words.{total}
 use Rattle.rules.specs.Limits.{mostTasks, mostSpeeds, mostTicks}
-use Rattle.rules.specs.State.{Shaped, periodAt, reserveAt, speedAt, voltsAt, countAt, jobAt, speedsOf, topOf}
+use Rattle.rules.specs.State.{Shaped, periodAt, speedAt, voltsAt, countAt, jobAt, speedsOf, topOf}
 use Rattle.rules.specs.Choice.{readyAt, orderOf, speedPlace, speedOf}
 use Rattle.rules.specs.Settlement.{atTickStart, settled, allAllowed, overEntriesZero, keepsRule4}
 use Rattle.rules.specs.Counting.{counted, nextOf}
@@ -24,6 +24,7 @@ use Rattle.rules.specs.Numbers.{runRight, unusedSpeed, sound, tickNumber
 use Rattle.rules.specs.Calls.{tickOf}
 use Rattle.rules.proofs.Lists.{both-left, both-right}
 use Rattle.rules.proofs.Orders.{order-below, order-apart, order-short, order-ready}
+use Rattle.rules.proofs.Places.{reserve-asks}
 use Rattle.rules.proofs.Stores.{withRun}
 use Rattle.rules.proofs.Totals.{total-set}
 use Rattle.rules.proofs.Settles.{Settles, settles-all, settles-begun, grantsSum}
@@ -33,12 +34,12 @@ use Rattle.rules.proofs.Loads.{place-below, speed-of-most}
 use Rattle.rules.proofs.CallRows.{Accepted, accepted, tick-accepted}
 
 -- a released job's run count is right, since its reserve is not 0
-released-right : (t p : ℕ) (j : Job) → 1 ≤ j .reserve .0 → runRight j ≡ true → runRight (afterRelease t p j) ≡ true
+released-right : (t p : ℕ) (j : Job) → runRight j ≡ true → runRight (afterRelease t p j) ≡ true
 unfolding afterRelease withRun runRight
-released-right t p j some r = go (eqb (t % p) 0)
+released-right t p j r = go (eqb (t % p) 0)
   where
     go : (b : Bool) → runRight (cond b (withRun j 0 false) j) ≡ true
-    go true = lt-ltb 0 (j .reserve .0) some
+    go true = lt-ltb 0 (j .reserve .0) (reserve-asks j r)
     go false = r
 
 -- both halves of rule 4: a job that is over has entry 0, and the entries of the ready ones are allowed
@@ -82,26 +83,23 @@ module _ (s : State) (r : JobsRight s) (speed : ℕ) where
       (omega (arith, ends .runs, r .few)) (omega (arith, ends .marks, r .few)) h
 
   -- so the jobs are right after it
-  pub jobs-after : (report : List ℕ) → allAllowed (s .tasks) report (orderOf s) (atTickStart (s .jobs) speed) ≡ true → ((i : ℕ) → i < s .tasks .count → 1 ≤ reserveAt (s .tasks) i) → (place : ℕ) → JobsRight (nextOf s place (settled s speed report))
+  pub jobs-after : (report : List ℕ) → allAllowed (s .tasks) report (orderOf s) (atTickStart (s .jobs) speed) ≡ true → (place : ℕ) → JobsRight (nextOf s place (settled s speed report))
   unfolding nextOf
-  jobs-after report a some place =
+  jobs-after report a place =
       let ends = settles report a in
       record {
         few = r .few;
-        right = λ i h. rw (job-after report a place i h) (released-right (s .done .0 + 1) (periodAt (s .tasks) i) (jobAt (s .tasks) (settled s speed report .jobs) i) (asks i h) (ends .right i h));
+        right = λ i h. rw (job-after report a place i h) (released-right (s .done .0 + 1) (periodAt (s .tasks) i) (jobAt (s .tasks) (settled s speed report .jobs) i) (ends .right i h));
         runs = releases-runs (s .tasks) (s .done .0 + 1) _ (s .tasks .count) ∙ ends .runs;
         marks = releases-marks (s .tasks) (s .done .0 + 1) _ (s .tasks .count) ∙ ends .marks;
       }
-    where
-      asks : (i : ℕ) → i < s .tasks .count → 1 ≤ jobAt (s .tasks) (settled s speed report .jobs) i .reserve .0
-      asks i h = unfold jobAt reserveAt in some i h
 
 module _ (s : State) (f : Sound s) (shape : Shaped s) (place speed : ℕ) (report : List ℕ) (room : s .done .0 < mostTicks) (listed : place < s .ladder .count) (fast : speed ≤ topOf (speedsOf (s .ladder))) (lawful : allAllowed (s .tasks) report (orderOf s) (atTickStart (s .jobs) speed) ≡ true) where
   done-so : Settles (s .tasks) (s .jobs) (s .tasks .count) speed [] (settled s speed report)
   done-so = settles s (jobs-right s f shape) speed report lawful
 
   jobs-so : JobsRight (nextOf s place (settled s speed report))
-  jobs-so = jobs-after s (jobs-right s f shape) speed report lawful (f .reserve-some) place
+  jobs-so = jobs-after s (jobs-right s f shape) speed report lawful place
 
   -- the job of the places past the tasks
   job-past : (i : ℕ) → s .tasks .count ≤ i → jobAt (s .tasks) (nextOf s place (settled s speed report) .jobs) i ≡ jobAt (s .tasks) (s .jobs) i

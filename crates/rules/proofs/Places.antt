@@ -37,6 +37,14 @@ run-most j e = go (j .over) refl
     go true o = over-most j e o
     go false o = omega (arith, run-below j e o)
 
+-- and no reserve is 0
+pub reserve-asks : (j : Job) → runRight j ≡ true → 1 ≤ j .reserve .0
+reserve-asks j e = go (j .over) refl
+  where
+    go : (b : Bool) → j .over ≡ b → 1 ≤ j .reserve .0
+    go true o = omega (arith, over-some j e o, over-most j e o)
+    go false o = omega (arith, run-below j e o)
+
 pub running-right : (j : Job) → j .over ≡ false → j .run .0 < j .reserve .0 → runRight j ≡ true
 unfolding runRight
 running-right j o h = rw o (lt-ltb (j .run .0) (j .reserve .0) h)
