@@ -23,6 +23,8 @@ pub mod Tallies
 pub mod TallyEnergy
 pub mod CutWindows
 pub mod TallyCuts
+pub mod UseWindows
+pub mod LoadProof
 pub mod CountsProof
 pub mod EitherSideRows
 pub mod Promises

@@ -3,6 +3,7 @@ use Rattle.promises.specs.NeverLate.{NeverLateInAnyRun, FreshStartIsOnCo
 use Rattle.promises.specs.ExactCycles.{ExactlyTheCycles}
 use Rattle.promises.specs.TurnedAway.{TurnedAwayForLoad}
 use Rattle.promises.specs.PaperTest.{Figure1, StartTestsFigure1, Figure4, LowestSpeedIsTold, EarliestDeadlineIsTold}
+use Rattle.promises.specs.PaperLoad.{LoadIsByTheReports}
 use Rattle.promises.specs.Counts.{CountsComeFromTheGrants}
 use Rattle.promises.specs.StaysSound.{EveryRunStaysSound}
 use Rattle.promises.specs.EitherSide.{EitherSideOfTheLine}
@@ -11,6 +12,7 @@ use Rattle.promises.proofs.ExactProof.{exactly-the-cycles}
 use Rattle.promises.proofs.Starves.{some-job-starves}
 use Rattle.promises.proofs.Fractions.{figure-1, start-tests, figure-4}
 use Rattle.promises.proofs.NowTells.{lowest-told, earliest-told}
+use Rattle.promises.proofs.LoadProof.{load-by-reports}
 use Rattle.promises.proofs.CountsProof.{counts-from-grants}
 use Rattle.promises.proofs.SoundRuns.{every-run-sound}
 use Rattle.promises.proofs.EitherSideRows.{every-row}
@@ -48,6 +50,10 @@ lowest-speed = lowest-told
 
 pub earliest-deadline : EarliestDeadlineIsTold
 earliest-deadline = earliest-told
+
+-- Demand 2: Figure 4's uses over a run, and so the load, go by the reports since each release.
+pub paper-load : LoadIsByTheReports
+paper-load = load-by-reports
 
 -- Demand 2: the counts come from the grants.
 pub counts : CountsComeFromTheGrants

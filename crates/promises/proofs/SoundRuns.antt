@@ -84,7 +84,7 @@ steps-at-speed = by-steps SoundAndShaped sound-next (λ s end xs. Each (λ (x : 
     at-speed s call end xs kept e rest = (unfold stepOf in step-speed s call e, rest)
 
 -- a run keeps its tasks
-same-tasks : (calls : List Call) (s : State) → SoundAndShaped s → after s calls .tasks ≡ s .tasks
+pub same-tasks : (calls : List Call) (s : State) → SoundAndShaped s → after s calls .tasks ≡ s .tasks
 unfolding nextOf
 same-tasks = by-steps SoundAndShaped sound-next (λ s end xs. end .tasks ≡ s .tasks) (λ s kept. refl) (λ s call end xs kept e rest. rest)
 

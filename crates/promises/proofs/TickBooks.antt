@@ -35,7 +35,7 @@ owing s js d i = owes (s .tasks .great .0) (s .done .0) d (jobAt (s .tasks) js i
 abbrev pub rooms : State → Jobs → ℕ → ℕ → ℕ → ℕ
 rooms s js from d i = room (s .tasks .great .0) (s .done .0) from d (jobAt (s .tasks) js i)
 
-abbrev spends : State → ℕ → ℕ
+abbrev pub spends : State → ℕ → ℕ
 spends s i = useOf (jobAt (s .tasks) (s .jobs) i) * (s .tasks .great .0 / jobAt (s .tasks) (s .jobs) i .period .0)
 
 -- both sides summed over the tasks
@@ -72,7 +72,7 @@ module _ (s : State) (r : TasksRight s) (js : Jobs) (i : ℕ) (h : i < s .tasks 
   job-whole = great-whole s (r .great-is) i h
 
 -- the load is the sum of what one tick spends
-load-sum : (s : State) → loadOf s ≡ sumTo (s .tasks .count) (spends s)
+pub load-sum : (s : State) → loadOf s ≡ sumTo (s .tasks .count) (spends s)
 unfolding loadOf load jobsOf
 load-sum s = total-places (λ (j : Job). useOf j * (s .tasks .great .0 / j .period .0)) (jobAt (s .tasks) (s .jobs)) (s .tasks .count)
 

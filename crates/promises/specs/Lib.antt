@@ -3,6 +3,7 @@ pub mod NeverLate
 pub mod ExactCycles
 pub mod TurnedAway
 pub mod PaperTest
+pub mod PaperLoad
 pub mod Counts
 pub mod StaysSound
 pub mod EitherSide

@@ -8,6 +8,7 @@
 //                (one tick: SettledPlaces, Portions, StepPlaces; a run: Windows, ExactProof)
 //   TurnedAway   demand 3: where start answers 8, every way to run the table starves a job   (Starves)
 //   PaperTest    demand 2: Figures 1 and 4, the lowest speed, the earliest deadline   (Fractions, NowTells)
+//   PaperLoad    demand 2: Figure 4's uses over a run: the load by the reports since each release   (UseWindows, LoadProof)
 //   Counts       demand 2: every count is drawn from the grants   (Tallies, TallyEnergy, CutWindows, TallyCuts, CountsProof)
 //   StaysSound   a run never meets 9 or 12, and goes on to its last tick   (GoesOn, SoundRuns)
 //   EitherSide   document 01's table (a) to (l)   (EitherSideRows)
