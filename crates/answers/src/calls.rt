@@ -44,6 +44,7 @@ pub(crate) fn now(state: State) -> TwoTold
     }
 }
 
+// Two grants lists that are equal before the calls are equal after them.
 pub(crate) fn tick(state: State, report: &[u64], grants: &mut [u64], again: &mut [u64]) -> TwoTicked
     requires { ⌜ now grants ≡ now again ⌝ }
     ensures { λ r. ⌜ (r .first ≡ r .second) × (now (grants .exit) ≡ now (again .exit)) ⌝ }

@@ -17,7 +17,7 @@ use Rattle.promises.specs.Runs.{sumTo}
 use Rattle.promises.specs.ExactCycles.{windowOf, finishes}
 use Rattle.promises.specs.Counts.{cutJob}
 use Rattle.promises.proofs.Sums.{sum-zero, sum-same}
-use Rattle.promises.proofs.Portions.{Portion, cutNow}
+use Rattle.promises.proofs.Portions.{Portion, cutNow, tick-finds}
 use Rattle.promises.proofs.Windows.{NothingMore, finishes-0, finishes-u, nothing-before, window-first, window-later, window-past}
 
 -- 1 where the job at hand is cut in its ticks to go, 0 where it is not: it is not over, no finish comes, and its run count comes to its reserve
@@ -70,16 +70,7 @@ module _ (u g : ℕ) (j k : Job) (portion : Portion u g j k) (togo : ℕ) (gs us
       rw (n, portion .no-finish n z, finishes-0 u (take togo us) z, eq-eqb u 0 z, e, portion .run-is, sum) (sym (zero-add _))
 
   one-more : OneMore
-  one-more = go (j .over) refl (ℕ-discrete u 0)
-    where
-      by-use : j .over ≡ false → u ≡ 0 → (b : Bool) → eqb (j .run .0 + g) (j .reserve .0) ≡ b → OneMore
-      by-use n z true e = one-more-used-up n z e
-      by-use n z false e = one-more-goes-on n z e
-
-      go : (b : Bool) → j .over ≡ b → Dec (u ≡ 0) → OneMore
-      go true o d = one-more-over o
-      go false n (yes z) = by-use n z (eqb (j .run .0 + g) (j .reserve .0)) refl
-      go false n (no some) = one-more-u n some
+  one-more = tick-finds u g j OneMore one-more-over one-more-u one-more-used-up one-more-goes-on
 
 -- no tick to go: a job that is not over has not come to its reserve
 uncut-at-deadline : (u g : ℕ) (j k : Job) → Portion u g j k → (gs us : List ℕ) → cutAtHand (j .reserve .0) (k .over) (k .run .0) 0 gs us ≡ 0

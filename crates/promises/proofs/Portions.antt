@@ -3,6 +3,7 @@ use mathlib.Core.Path.{_≡_, refl, sym, ap, _∙_}
 use mathlib.Core.Bool.{Bool, true, false, false≢true, cond, not, _&&_, _||_}
 use mathlib.Core.List.{List}
 use Prim.Native.Nat.{ℕ, zero, suc, _+_, _-_, _≤_, _<_, min}
+use native.Mathlib.Decide.{ℕ-discrete}
 use native.Mathlib.Omega.{arith}
 use lib.Dec.{eqb, ltb, leb}
 use lib.ListN.{getD}
@@ -36,6 +37,21 @@ pub record Portion (u g : ℕ) (j k : Job) : Type 0 where
   pub was-over : j .over ≡ true → (g ≡ 0) × (u ≡ 0) × (k .over ≡ true)
   pub no-finish : j .over ≡ false → u ≡ 0 → k .over ≡ eqb (j .run .0 + g) (j .reserve .0)
   pub finish : j .over ≡ false → (u ≡ 0 → ⊥) → (j .run .0 + g ≡ u) × (k .over ≡ true)
+
+-- what a tick may find: the job is over; it finishes; it uses its reserve up with entry 0; or it goes on
+pub tick-finds : (u g : ℕ) (j : Job) (A : Type 0)
+    → (j .over ≡ true → A)
+    → (j .over ≡ false → (u ≡ 0 → ⊥) → A)
+    → (j .over ≡ false → u ≡ 0 → eqb (j .run .0 + g) (j .reserve .0) ≡ true → A)
+    → (j .over ≡ false → u ≡ 0 → eqb (j .run .0 + g) (j .reserve .0) ≡ false → A)
+    → A
+tick-finds u g j A over finishes used-up goes-on = go (j .over) refl (ℕ-discrete u 0) (eqb (j .run .0 + g) (j .reserve .0)) refl
+  where
+    go : (b : Bool) → j .over ≡ b → Dec (u ≡ 0) → (c : Bool) → eqb (j .run .0 + g) (j .reserve .0) ≡ c → A
+    go true o d c e = over o
+    go false n (no some) c e = finishes n some
+    go false n (yes z) true e = used-up n z e
+    go false n (yes z) false e = goes-on n z e
 
 -- a job that is over, with entry 0 and grant 0, stays as it is
 over-portion : (u : ℕ) (j : Job) → runRight j ≡ true → j .over ≡ true → u ≡ 0 → Portion u 0 j j

@@ -4,7 +4,7 @@ use mathlib.Core.Bool.{Bool, true, false, cond}
 use mathlib.Core.List.{List, [], _∷_}
 use Prim.Native.Nat.{ℕ, suc, _+_, _*_, _/_, _≤_, _<_}
 use native.Mathlib.Nat.{zero-mul, div-eq-of-lt, div-eq-sub-div}
-use native.Mathlib.Decide.{ℕ-discrete, decLt}
+use native.Mathlib.Decide.{decLt}
 use native.Mathlib.Omega.{arith}
 use lib.Dec.{eqb}
 use lib.ListN.{length, drop, length-drop}
@@ -14,7 +14,7 @@ use Rattle.rules.specs.declared.Job.{Job}
 use Rattle.rules.specs.Words.{total}
 use Rattle.promises.specs.ExactCycles.{finishes, dueTo}
 use Rattle.promises.specs.PaperLoad.{sinceRelease, useBy}
-use Rattle.promises.proofs.Portions.{Portion}
+use Rattle.promises.proofs.Portions.{Portion, tick-finds}
 use Rattle.promises.proofs.Windows.{NothingMore, finishes-0, finishes-u, nothing-before}
 
 -- the use of the job at hand after entries that end before its deadline: what it ran where it is over, else its reserve or the cycles of its finish
@@ -61,16 +61,7 @@ module _ (u g : ℕ) (j k : Job) (portion : Portion u g j k) (togo : ℕ) (gs us
   same-goes-on n z e = rw (n, portion .no-finish n z, e, finishes-0 u us z)
 
   same-use : SameUse
-  same-use = go (j .over) refl (ℕ-discrete u 0)
-    where
-      by-reserve : j .over ≡ false → u ≡ 0 → (b : Bool) → eqb (j .run .0 + g) (j .reserve .0) ≡ b → SameUse
-      by-reserve n z true e = same-used-up n z e
-      by-reserve n z false e = same-goes-on n z e
-
-      go : (b : Bool) → j .over ≡ b → Dec (u ≡ 0) → SameUse
-      go true o d = same-over o
-      go false n (yes z) = by-reserve n z (eqb (j .run .0 + g) (j .reserve .0)) refl
-      go false n (no some) = same-u n some
+  same-use = tick-finds u g j SameUse same-over same-u same-used-up same-goes-on
 
 -- within the first period nothing is dropped, and a whole period in front makes no difference
 module _ (period : ℕ) (us : List ℕ) where

@@ -4,7 +4,6 @@ use mathlib.Core.Bool.{Bool, true, false, false≢true}
 use mathlib.Core.List.{List, [], _∷_}
 use Prim.Native.Nat.{ℕ, zero, suc, _+_, _-_, _*_, _≤_}
 use native.Mathlib.Nat.{zero-mul, suc-mul, add-comm, le-trans, le-mul-of-pos-right}
-use native.Mathlib.Decide.{ℕ-discrete}
 use native.Mathlib.Omega.{arith}
 use lib.Dec.{eqb}
 use lib.ListN.{length, take, drop, length-drop, drop-of-length-le}
@@ -13,7 +12,7 @@ use borrow.Author.Tests.{eqb-true, eq-eqb, ne-eqb}
 use Rattle.rules.specs.declared.Job.{Job}
 use Rattle.rules.specs.Words.{total}
 use Rattle.promises.specs.ExactCycles.{windowOf, finishes, dueTo, Served}
-use Rattle.promises.proofs.Portions.{Portion}
+use Rattle.promises.proofs.Portions.{Portion, tick-finds}
 
 -- a job at hand that is over gets nothing more in its ticks to go: no grant and no finish
 abbrev pub NothingMore : Bool → ℕ → List ℕ → List ℕ → Type 0
@@ -105,12 +104,7 @@ module _ (u g : ℕ) (j k : Job) (portion : Portion u g j k) (togo : ℕ) (gs us
       }
 
   one-more : OneMore
-  one-more = go (j .over) refl (ℕ-discrete u 0)
-    where
-      go : (b : Bool) → j .over ≡ b → Dec (u ≡ 0) → OneMore
-      go true o d = one-more-over o
-      go false n (yes z) = one-more-0 n z
-      go false n (no some) = one-more-u n some
+  one-more = tick-finds u g j OneMore one-more-over one-more-u (λ n z e. one-more-0 n z) (λ n z e. one-more-0 n z)
 
 -- no tick to go, and the job is over: nothing to come
 at-deadline : (reserve : ℕ) (over : Bool) (run : ℕ) (gs us : List ℕ) → over ≡ true → AtHand reserve over run 0 gs us
