@@ -1,0 +1,5 @@
+pub mod Written
+pub mod ReadBack
+mod Backwards
+mod Reading
+mod Spelling
