@@ -1,0 +1,9 @@
+pub mod Splits
+pub mod Rising
+pub mod Pairing
+pub mod Ending
+pub mod Closing
+pub mod Stages
+pub mod Kept
+pub mod Risen
+pub mod Good

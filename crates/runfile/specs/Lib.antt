@@ -1,0 +1,3 @@
+pub mod Groups
+pub mod RunFile
+pub mod Good

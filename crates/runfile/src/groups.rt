@@ -1,0 +1,203 @@
+// The groups of a run file's lines.
+ghost use mathlib.Core.Path.{_≡_};
+ghost use mathlib.Core.Bool.{_&&_};
+ghost use Prim.Native.Nat.{_≤_};
+ghost use lib.Dec.{leb, ltb};
+ghost use lib.ListN.{take};
+ghost use Rattle.runfile.specs.Groups.{noPairs, noEnds, pairsFrom, endsFrom, endGood, wrongPairs, wrongEnds};
+ghost use Rattle.runfile.specs.RunFile.{noRunFile, all, mostRunTicks};
+use crate::Ends;
+use crate::Pairs;
+use crate::RunFile;
+use lines::EndLine;
+use lines::PairLine;
+
+// A group of task or speed lines that was read, and the place of the line after it; or a line that is wrong.
+pub(crate) struct PairsRead {
+    pub(crate) good: bool,
+    pub(crate) pairs: Pairs,
+    pub(crate) next: usize,
+}
+
+// The end lines that were read, and the place of the line after them; or a line that is wrong.
+pub(crate) struct EndsRead {
+    pub(crate) good: bool,
+    pub(crate) ends: Ends,
+    pub(crate) next: usize,
+}
+
+// Task lines or speed lines from a place on: as long as a line begins with the word, its two numbers.
+pub(crate) fn pairs(text: &[u8], at: usize, word: &[u8], most: usize) -> PairsRead
+    requires { ⌜ most ≤ 16 ⌝ }
+    ensures { λ r. ⌜ r ≡ pairsFrom (now (word .entry)) (now (text .entry)) most at noPairs ⌝ }
+{
+    let mut sofar = no_pairs();
+    let mut next = at;
+    while words::stands(text, next, word) {
+        let count = sofar.count;
+        if count >= most {
+            return wrong_pairs();
+        }
+        let PairLine::Pair {
+            first,
+            second,
+            next: after,
+        } = lines::pair_line(text, next + word.len())
+        else {
+            return wrong_pairs();
+        };
+        sofar.firsts[count] = first;
+        sofar.seconds[count] = second;
+        sofar.count = count + 1;
+        next = after;
+    }
+    PairsRead {
+        good: true,
+        pairs: sofar,
+        next: next,
+    }
+}
+
+// End lines from a place on, for so many tasks: they rise strictly by tick and then task, name a task that exists and at least 1 cycle.
+pub(crate) fn ends(text: &[u8], at: usize, known: usize) -> EndsRead
+    ensures { λ r. ⌜ r ≡ endsFrom (now (text .entry)) known 1000 at 0 0 noEnds ⌝ }
+{
+    let mut sofar = no_ends();
+    let mut next = at;
+    let mut tick_before: u64 = 0;
+    let mut task_before: u64 = 0;
+    while words::stands(text, next, b"end,") {
+        let count = sofar.count;
+        if count >= 1000 {
+            return wrong_ends();
+        }
+        let EndLine::End {
+            tick,
+            task,
+            cycles,
+            next: after,
+        } = lines::end_line(text, next + 4)
+        else {
+            return wrong_ends();
+        };
+        if !good_end(known, tick_before, task_before, tick, task, cycles) {
+            return wrong_ends();
+        }
+        sofar.ticks[count] = tick;
+        sofar.tasks[count] = task;
+        sofar.cycles[count] = cycles;
+        sofar.count = count + 1;
+        next = after;
+        tick_before = tick;
+        task_before = task;
+    }
+    EndsRead {
+        good: true,
+        ends: sofar,
+        next: next,
+    }
+}
+
+// Whether an end line rises above the one before, names a task that exists and at least 1 cycle.
+pub(crate) fn good_end(
+    known: usize,
+    earlier: u64,
+    former: u64,
+    tick: u64,
+    task: u64,
+    cycles: u64,
+) -> bool
+    ensures { λ r. ⌜ r ≡ endGood known earlier former tick task cycles ⌝ }
+{
+    if tick < earlier {
+        return false;
+    }
+    if tick == earlier {
+        if task <= former {
+            return false;
+        }
+    }
+    if task < 1 {
+        return false;
+    }
+    if task > known as u64 {
+        return false;
+    }
+    cycles >= 1
+}
+
+// Whether the run line's ticks are at most 10,000 and every end line's tick is below them.
+pub(crate) fn closes(ends: Ends, run: u64) -> bool
+    requires { ⌜ ends .count ≤ 1000 ⌝ }
+    ensures { λ r. ⌜ r ≡ (leb run mostRunTicks && all (λ t. ltb t run) (take (ends .count) (ends .ticks))) ⌝ }
+{
+    if run > 10000 {
+        return false;
+    }
+    let ticks = ends.ticks;
+    let n = ends.count;
+    let mut i = 0;
+    while i < n {
+        if ticks[i] >= run {
+            return false;
+        }
+        i += 1;
+    }
+    true
+}
+
+// A line of the group is wrong.
+pub(crate) fn wrong_pairs() -> PairsRead
+    ensures { λ r. ⌜ r ≡ wrongPairs ⌝ }
+{
+    PairsRead {
+        good: false,
+        pairs: no_pairs(),
+        next: 0,
+    }
+}
+
+pub(crate) fn wrong_ends() -> EndsRead
+    ensures { λ r. ⌜ r ≡ wrongEnds ⌝ }
+{
+    EndsRead {
+        good: false,
+        ends: no_ends(),
+        next: 0,
+    }
+}
+
+// No line of a group.
+pub(crate) fn no_pairs() -> Pairs
+    ensures { λ r. ⌜ r ≡ noPairs ⌝ }
+{
+    Pairs {
+        count: 0,
+        firsts: [0; 16],
+        seconds: [0; 16],
+    }
+}
+
+pub(crate) fn no_ends() -> Ends
+    ensures { λ r. ⌜ r ≡ noEnds ⌝ }
+{
+    Ends {
+        count: 0,
+        ticks: [0; 1000],
+        tasks: [0; 1000],
+        cycles: [0; 1000],
+    }
+}
+
+// 14: the text is not a run file.
+pub(crate) fn no_run_file() -> RunFile
+    ensures { λ r. ⌜ r ≡ noRunFile ⌝ }
+{
+    RunFile {
+        number: 14,
+        tasks: no_pairs(),
+        speeds: no_pairs(),
+        ends: no_ends(),
+        ticks: 0,
+    }
+}
