@@ -1,0 +1,33 @@
+//! The kept run files: named after what they show.
+
+use crate::kinds::Case;
+use std::fs;
+use std::io::Result;
+use std::path::{Path, PathBuf};
+
+/// Every NAME.csv of the folder by name, with the bytes of NAME.out where it stands beside it.
+pub fn kept(folder: &Path) -> Result<Vec<Case>> {
+    let mut paths = Vec::new();
+    for entry in fs::read_dir(folder)? {
+        paths.push(entry?.path());
+    }
+    paths.retain(|path| path.extension().is_some_and(|ending| ending == "csv"));
+    paths.sort();
+    paths.iter().map(case).collect()
+}
+
+fn case(path: &PathBuf) -> Result<Case> {
+    let name = path.file_stem().unwrap_or_default().to_string_lossy();
+    let out = path.with_extension("out");
+    let expected = if out.exists() {
+        Some(fs::read(out)?)
+    } else {
+        None
+    };
+    Ok(Case {
+        kind: name.to_string(),
+        text: fs::read(path)?,
+        expected,
+        kept: true,
+    })
+}
