@@ -1,0 +1,3 @@
+pub mod RunOfPlay
+pub mod BenchRuns
+pub mod Theorems

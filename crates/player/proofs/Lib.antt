@@ -1,0 +1,16 @@
+pub mod Sums
+pub mod Entries
+pub mod Begins
+pub mod Shared
+pub mod RowParts
+pub mod TickRows
+pub mod Cursor
+pub mod Reports
+pub mod Lines
+pub mod Runs
+pub mod Outcomes
+pub mod TickShares
+pub mod PlayLaws
+pub mod StartLaws
+pub mod TextLaws
+pub mod Promises

@@ -1,0 +1,57 @@
+-- `sum` is `total`: the sum so far and that of the places to come are the sum of all.
+use mathlib.Core.Path.{_≡_}
+use Prim.Native.Nat.{_+_, _-_, _≤_}
+use native.Mathlib.Omega.{arith}
+use lib.ListN.{length, drop}
+use Rattle.rules.specs.Words.{total}
+use Rattle.player.proofs.Sums.{sum-turn, sum-end}
+use Rattle.player.proofs.ticks.sum.Statement.{statement}
+use Rattle.player.proofs.ticks.sum.Tie as tie
+
+abbrev Inv-loop : tie.InvT-loop
+Inv-loop values sofar₀ i₀ sofar i = (i ≤ length values) × (total (λ g. g) values ≡ sofar + total (λ g. g) (drop i values))
+
+abbrev μ-loop : tie.MeasureT-loop
+μ-loop values sofar₀ i₀ sofar i = length values - i
+
+loop-holds : tie.Need-loop-holds Inv-loop μ-loop
+loop-holds c = (omega arith, omega arith)
+
+mul-sofar : tie.Need-mul-sofar Inv-loop μ-loop
+mul-sofar c = omega arith
+
+shared-slice-read-sofar : tie.Need-shared-slice-read-sofar Inv-loop μ-loop
+shared-slice-read-sofar c = omega arith
+
+add-sofar : tie.Need-add-sofar Inv-loop μ-loop
+add-sofar c = let l = c .before .before in
+    omega (arith, c .before .before .before .pre, sum-turn (l .before .args .values .now) (l .loop .i) (c .before .loop-test .taken))
+
+add-i : tie.Need-add-i Inv-loop μ-loop
+add-i c = omega arith
+
+loop-less : tie.Need-loop-less Inv-loop μ-loop
+loop-less c = omega arith
+
+loop-again : tie.Need-loop-again Inv-loop μ-loop
+loop-again c = let l = c .before .before in
+    (omega arith, omega (arith, l .loop .inv .1, sum-turn (l .before .args .values .now) (l .loop .i) (c .before .loop-test .taken)))
+
+returns : tie.Need-returns Inv-loop μ-loop
+returns c = let l = c .before in
+    omega (arith, l .loop .inv .1, sum-end (l .before .args .values .now) (l .loop .i) (c .loop-test .left))
+
+pub sum-spec : {M : Type 1} → statement M
+sum-spec =
+    tie.close
+    (tie.spec
+    Inv-loop
+    μ-loop
+    loop-holds
+    mul-sofar
+    shared-slice-read-sofar
+    add-sofar
+    add-i
+    loop-less
+    loop-again
+    returns)

@@ -1,0 +1,4 @@
+pub mod Plays
+pub mod Rows
+pub mod Parts
+pub mod Promised

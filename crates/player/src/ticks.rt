@@ -1,0 +1,143 @@
+// The ticks of a run, one after the other, each into its row.
+ghost use mathlib.Core.Path.{_≡_};
+ghost use mathlib.Core.Bool.{cond};
+ghost use Prim.Native.Nat.{_+_, _≤_, _<_, _^_};
+ghost use lib.Dec.{eqb};
+ghost use lib.ListN.{length};
+ghost use lib.Seq.{sets};
+ghost use Rattle.rules.specs.Words.{total};
+ghost use Rattle.rules.specs.Calls.{tickOf};
+ghost use Rattle.player.specs.Plays.{endsOf, tickPlayed, playFrom};
+ghost use Rattle.player.specs.Rows.{rowOf, rowsOf};
+ghost use Rattle.player.specs.Parts.{unplayedAs, playedAs, pastTick, Runnable, entered, Named};
+use crate::Played;
+use rules::State;
+use rules::Tally;
+use rules::Ticked;
+use runfile::Ends;
+
+// Every tick of the run from a state on, each with the report of its end lines; a refused tick ends the run.
+pub(crate) fn play_run(state: State, ends: Ends, run: u64, rows: &mut [u64]) -> Played
+    requires { ⌜ Runnable state ends run (length (now rows)) ⌝ }
+    ensures { λ r. ⌜ r ≡ playedAs (playFrom (endsOf ends) run state) ⌝ }
+    ensures { λ _. ⌜ now (rows .exit) ≡ sets (now (rows .entry)) 0 (rowsOf (playFrom (endsOf ends) run state .ticks)) ⌝ }
+{
+    let when = ends.ticks;
+    let who = ends.tasks;
+    let cycles = ends.cycles;
+    let e = ends.count;
+    let tasks = state.tasks;
+    let n = tasks.count;
+    let mut current = state;
+    let mut t: u64 = 0;
+    let mut next = 0;
+    let mut at = 0;
+    while t < run {
+        let mut report = [0u64; 16];
+        next = enter(
+            &when[0..e],
+            &who[0..e],
+            &cycles[0..e],
+            next,
+            t,
+            &mut report[0..n],
+        );
+        let after = at + n + 2;
+        let ticked = play_tick(current, &report[0..n], &mut rows[at..after]);
+        if ticked.number != 0 {
+            return Played {
+                room: true,
+                number: ticked.number,
+                state: current,
+            };
+        }
+        current = ticked.state;
+        at = after;
+        t += 1;
+    }
+    Played {
+        room: true,
+        number: 0,
+        state: current,
+    }
+}
+
+// The end lines of a tick, from a place among all of them on, entered into its report; the place of the first end line of a later tick.
+pub(crate) fn enter(
+    when: &[u64],
+    who: &[u64],
+    cycles: &[u64],
+    from: usize,
+    t: u64,
+    report: &mut [u64],
+) -> usize
+    requires { ⌜ Named (now when) (now who) (now cycles) (length (now report)) ⌝ }
+    ensures { λ r. ⌜ r ≡ pastTick (now (when .entry)) t from ⌝ }
+    ensures { λ _. ⌜ now (report .exit) ≡ entered (now (when .entry)) (now (who .entry)) (now (cycles .entry)) t from (now (report .entry)) ⌝ }
+{
+    let mut k = from;
+    while k < when.len() {
+        if when[k] != t {
+            break;
+        }
+        let task = who[k] as usize;
+        report[task - 1] = cycles[k];
+        k += 1;
+    }
+    k
+}
+
+// One tick into its row. The speed is what was granted and what remains: now would tell the same.
+pub(crate) fn play_tick(state: State, report: &[u64], row: &mut [u64]) -> Ticked
+    requires { ⌜ length (now row) ≡ length (now report) + 2 ⌝ }
+    ensures { λ r. ⌜ r ≡ tickOf state (now (report .entry)) (length (now (report .entry))) ⌝ }
+    ensures { λ r. ⌜ now (row .exit) ≡ cond (eqb (r .number) 0) (rowOf (tickPlayed state (now (report .entry)))) (now (row .entry)) ⌝ }
+{
+    let end = report.len() + 1;
+    let ticked = governor::tick(state, report, &mut row[1..end]);
+    if ticked.number != 0 {
+        return ticked;
+    }
+    let after = ticked.state;
+    let idle = idled(state.tally, after.tally);
+    row[end] = idle;
+    row[0] = sum(&row[1..end]) + idle;
+    ticked
+}
+
+// The idle cycles of a tick, from the counts before and after it.
+pub(crate) fn idled(before: Tally, after: Tally) -> u64
+    requires { ⌜ before .idle .0 ≤ after .idle .0 ⌝ }
+    ensures { λ r. ⌜ before .idle .0 + r ≡ after .idle .0 ⌝ }
+{
+    let old = before.idle;
+    let new = after.idle;
+    new.0 - old.0
+}
+
+// The sum of a list.
+pub(crate) fn sum(values: &[u64]) -> u64
+    requires { ⌜ total (λ g. g) (now values) < 2 ^ 64 ⌝ }
+    ensures { λ r. ⌜ r ≡ total (λ g. g) (now (values .entry)) ⌝ }
+{
+    let mut sofar: u64 = 0;
+    let mut i = 0;
+    while i < values.len() {
+        sofar += values[i];
+        i += 1;
+    }
+    sofar
+}
+
+// Nothing played: whether there was room, the number, and the all-zero state, which start gives for no table.
+pub(crate) fn unplayed(room: bool, number: u64) -> Played
+    ensures { λ r. ⌜ r ≡ unplayedAs room number ⌝ }
+{
+    let none = governor::start(&[], &[], &[], &[]);
+    let state = none.state;
+    Played {
+        room: room,
+        number: number,
+        state: state,
+    }
+}
