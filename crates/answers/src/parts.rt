@@ -9,6 +9,7 @@ use rules::Ladder;
 use rules::Order;
 use rules::Started;
 use rules::State;
+use rules::Tally;
 use rules::Tasks;
 use settlement::Settled;
 use soundness::Surveyed;
@@ -64,6 +65,11 @@ pub(crate) struct TwoPlaces {
 pub(crate) struct TwoSettled {
     pub(crate) first: Settled,
     pub(crate) second: Settled,
+}
+
+pub(crate) struct TwoSpeeds {
+    pub(crate) first: Speed,
+    pub(crate) second: Speed,
 }
 
 pub(crate) struct TwoSurveyed {
@@ -164,6 +170,42 @@ pub(crate) fn settle(
     TwoSettled {
         first: settlement::settle(tasks, jobs, dues, speed, report),
         second: settlement::settle(tasks, jobs, dues, speed, report),
+    }
+}
+
+pub(crate) fn tasks_right(tasks: Tasks, jobs: Jobs) -> TwoTests
+    ensures { λ r. ⌜ r .first ≡ r .second ⌝ }
+{
+    TwoTests {
+        first: places::tasks_right(tasks, jobs),
+        second: places::tasks_right(tasks, jobs),
+    }
+}
+
+pub(crate) fn ladder_right(ladder: Ladder, tally: Tally) -> TwoTests
+    ensures { λ r. ⌜ r .first ≡ r .second ⌝ }
+{
+    TwoTests {
+        first: rungs::ladder_right(ladder, tally),
+        second: rungs::ladder_right(ladder, tally),
+    }
+}
+
+pub(crate) fn top_of(ladder: Ladder) -> TwoSpeeds
+    ensures { λ r. ⌜ r .first ≡ r .second ⌝ }
+{
+    TwoSpeeds {
+        first: rungs::top_of(ladder),
+        second: rungs::top_of(ladder),
+    }
+}
+
+pub(crate) fn tally_right(done: Ticks, tally: Tally, top: Speed) -> TwoTests
+    ensures { λ r. ⌜ r .first ≡ r .second ⌝ }
+{
+    TwoTests {
+        first: tallies::tally_right(done, tally, top),
+        second: tallies::tally_right(done, tally, top),
     }
 }
 

@@ -1,3 +1,4 @@
+pub mod Answers
 pub mod CallRows
 pub mod Climbs
 pub mod Deadlines
@@ -19,3 +20,4 @@ pub mod Soundness
 pub mod Stores
 pub mod Tables
 pub mod Totals
+pub mod WalkLaws

@@ -1,41 +1,44 @@
 -- The tests of the code against soundness fact by fact: each holds for a sound state, and all of them make one.
-use mathlib.Core.Path.{_≡_, refl, sym, subst, _∙_}
+use mathlib.Core.Path.{_≡_, refl, sym, ap, _∙_}
 use mathlib.Core.Bool.{Bool, true, false, false≢true, _&&_}
 use Prim.Native.Nat.{ℕ, _+_, _-_, _*_, _≤_, _<_}
 use native.Mathlib.Omega.{arith}
 use lib.Dec.{leb}
-use lib.ListN.{length}
+use lib.ListN.{length, drop}
 use borrow.Author.Tests.{le-leb, leb-true}
+use Rattle.units.specs.Units.{cyclesIn}
 use Rattle.units.specs.declared.Cycles.{Cycles}
+use Rattle.units.specs.declared.Speed.{Speed}
 use Rattle.units.specs.declared.Ticks.{Ticks}
 use Rattle.rules.specs.declared.State.{State}
 use Rattle.rules.specs.declared.Tally.{Tally}
-use Rattle.rules.specs.Words.{total, every}
+use Rattle.rules.specs.Words.{upTo, total, every}
 use Rattle.rules.specs.Limits.{mostTasks, mostPeriod, mostReserve, mostSpeeds, mostSpeed, mostGreat, mostTicks, upToMost}
-use Rattle.rules.specs.State.{jobAt, jobsOf, periodAt, reserveAt, speedAt, voltsAt, countAt, periodsOf, reservesOf, speedsOf, voltsOf, topOf}
+use Rattle.rules.specs.State.{jobAt, jobsOf, periodAt, reserveAt, periodsOf, reservesOf, speedsOf, voltsOf, topOf}
 use Rattle.rules.specs.Choice.{loadOf}
 use Rattle.rules.specs.Admission.{fullLoad}
-use Rattle.rules.specs.Numbers.{speedsRise, voltsNeverFall, unusedJob, unusedSpeed, unusedSpeeds, sound}
+use Rattle.rules.specs.Numbers.{speedsRise, voltsNeverFall, unusedJob, unusedSpeed, sound}
 use Rattle.rules.proofs.Climbs.{rise-range}
 use Rattle.rules.proofs.Lists.{both-left, both-right, upTo-at, upTo-all, rest-at, rest-all}
+use Rattle.rules.proofs.Loads.{top-limit}
 use Rattle.rules.proofs.Ranges.{in-range, range-from, range-to}
 use Rattle.rules.proofs.Soundness.{Sound, sound-facts, facts-sound, length-speeds}
+use Rattle.places.specs.Places.{jobRight, jobsPast, tasksRight}
+use Rattle.places.proofs.PlaceLaws.{right-job, rest-decides}
+use Rattle.rungs.specs.Rungs.{unusedRung, ladderRight, topIn}
+use Rattle.rungs.proofs.TopLaws.{top-is}
+use Rattle.tallies.specs.Tallies.{countedWithin, tallyRight}
+use Rattle.tallies.proofs.TallyLaws.{most-is}
 use Rattle.soundness.specs.Survey.{surveyOf, unsoundSurvey}
-use Rattle.soundness.specs.Parts.{jobRight, jobsPast, tasksRight, climbing, unusedRung, rungsPast, ladderRight, countedWithin, tallyRight, sumsTo, greatTest, Summable}
-use Rattle.soundness.proofs.PlaceLaws.{right-job, rest-decides}
-use Rattle.soundness.proofs.RungLaws.{past-decides}
+use Rattle.soundness.specs.Parts.{sumsTo, greatTest, Summable}
 use Rattle.soundness.proofs.SumLaws.{period-in, reserve-in, run-in}
 use Rattle.soundness.proofs.SumValues.{full-is, load-is, great-found, great-passes}
 
-module _ (s : State) where
-  -- the speed side in the words of soundness
-  climbing-is : climbing (s .ladder .count) (s .ladder .speeds) (s .ladder .volts) 0 0 0 ≡ (speedsRise 0 (speedsOf (s .ladder)) && voltsNeverFall 0 (voltsOf (s .ladder)))
-  unfolding climbing speedsOf voltsOf speedAt voltsAt
-  climbing-is = refl
-
-  past-is : rungsPast (s .ladder .speeds) (s .ladder .volts) (s .tally .counts) (s .ladder .count) ≡ unusedSpeeds s
-  unfolding rungsPast unusedSpeeds unusedSpeed unusedRung speedAt voltsAt countAt
-  past-is = refl
+-- the bound of the counts is t x top speed, for a top speed and a t that are allowed
+bound-is : (s : State) → s .ladder .count ≤ mostSpeeds → topOf (speedsOf (s .ladder)) ≤ mostSpeed → s .done .0 ≤ mostTicks → cyclesIn (topIn (s .ladder)) (s .done) .0 ≡ s .done .0 * topOf (speedsOf (s .ladder))
+bound-is s few low done =
+    let e : topIn (s .ladder) .0 ≡ topOf (speedsOf (s .ladder)) = top-is (s .ladder) few in
+    most-is (s .done) (topIn (s .ladder)) (rw e low) done ∙ ap (λ (x : ℕ). s .done .0 * x) e
 
 -- each test holds for a sound state
 module _ (s : State) (f : Sound s) where
@@ -54,26 +57,28 @@ module _ (s : State) (f : Sound s) where
       (rest-decides (s .tasks) (s .jobs) (f .tasks-some) (f .tasks-most) (upTo-all jobRight (s .tasks .count) (jobAt (s .tasks) (s .jobs)) job-holds))
       ∙ rest-all unusedJob (s .tasks .count) mostTasks (jobAt (s .tasks) (s .jobs)) (f .unused-job)
 
-  pub ladder-holds : ladderRight (s .ladder) (s .tally) ≡ true
-  unfolding unusedSpeeds
-  ladder-holds =
-      let climbs : (speedsRise 0 (speedsOf (s .ladder)) && voltsNeverFall 0 (voltsOf (s .ladder))) ≡ true = rw (f .speeds-rise, f .volts-never-fall) in
-      sym (past-decides (s .ladder) (s .tally) (f .speeds-some) (f .speeds-most) (climbing-is s ∙ climbs))
-      ∙ past-is s
-      ∙ rest-all (unusedSpeed s) (s .ladder .count) mostSpeeds (λ i. i) (f .unused-speed)
+  -- the speed places past the count are unused
+  rungs-hold : every (unusedRung (s .ladder) (s .tally)) (drop (s .ladder .count) (upTo mostSpeeds (λ i. i))) ≡ true
+  unfolding unusedRung unusedSpeed
+  rungs-hold = rest-all (unusedRung (s .ladder) (s .tally)) (s .ladder .count) mostSpeeds (λ i. i) (f .unused-speed)
 
-  pub tally-holds : tallyRight (s .done) (s .tally) (topOf (speedsOf (s .ladder))) ≡ true
+  pub ladder-holds : ladderRight (s .ladder) (s .tally) ≡ true
+  unfolding ladderRight
+  ladder-holds =
+      rw (in-range mostSpeeds (s .ladder .count) (f .speeds-some) (f .speeds-most), f .speeds-rise, f .volts-never-fall, rungs-hold)
+
+  pub tally-holds : tallyRight (s .done) (s .tally) (topIn (s .ladder)) ≡ true
   unfolding tallyRight countedWithin
   tally-holds =
-      rw (le-leb _ _ (f .done-most), le-leb _ _ (f .late-most), le-leb _ _ (f .cut-most), le-leb _ _ (f .cycles-most))
+      rw (bound-is s (f .speeds-most) (top-limit s f) (f .done-most), le-leb _ _ (f .done-most), le-leb _ _ (f .late-most), le-leb _ _ (f .cut-most), le-leb _ _ (f .cycles-most))
 
   pub great-holds : greatTest (sumsTo (s .tasks) (s .jobs) (s .tasks .count)) ≡ true
   great-holds = great-passes (s .tasks) (s .jobs) (f .tasks-some) (f .period-some) (f .great-is)
 
-  pub full-holds : leb (sumsTo (s .tasks) (s .jobs) (s .tasks .count) .full .0) (topOf (speedsOf (s .ladder)) * s .tasks .great .0) ≡ true
+  pub full-holds : leb (sumsTo (s .tasks) (s .jobs) (s .tasks .count) .full .0) (topIn (s .ladder) .0 * s .tasks .great .0) ≡ true
   full-holds =
-      le-leb (sumsTo (s .tasks) (s .jobs) (s .tasks .count) .full .0) (topOf (speedsOf (s .ladder)) * s .tasks .great .0)
-      (rw (full-is (s .tasks) (s .jobs)) (f .admits))
+      le-leb (sumsTo (s .tasks) (s .jobs) (s .tasks .count) .full .0) (topIn (s .ladder) .0 * s .tasks .great .0)
+      (rw (full-is (s .tasks) (s .jobs), top-is (s .ladder) (f .speeds-most)) (f .admits))
 
 -- what the tests of the tables give
 module _ (s : State) (t : tasksRight (s .tasks) (s .jobs) ≡ true) where
@@ -111,55 +116,59 @@ module _ (s : State) (t : tasksRight (s .tasks) (s .jobs) ≡ true) where
       (both-right (upToMost mostTasks (s .tasks .count) && every jobRight (jobsOf (s .tasks) (s .jobs))) (every unusedJob (jobsPast (s .tasks) (s .jobs))) t)
 
 module _ (s : State) (t : ladderRight (s .ladder) (s .tally) ≡ true) where
-  climbs : Bool
-  climbs = speedsRise 0 (speedsOf (s .ladder)) && voltsNeverFall 0 (voltsOf (s .ladder))
+  -- the four parts of the test of the speed side
+  abbrev counts : Bool
+  counts = upToMost mostSpeeds (s .ladder .count)
 
-  ladder-is : (upToMost mostSpeeds (s .ladder .count) && climbs && unusedSpeeds s) ≡ true
-  unfolding ladderRight climbs
-  ladder-is = rw (climbing-is s, past-is s) at t
+  abbrev rises : Bool
+  rises = speedsRise 0 (speedsOf (s .ladder))
 
-  counted-climbs : (upToMost mostSpeeds (s .ladder .count) && climbs) ≡ true
-  counted-climbs = both-left (upToMost mostSpeeds (s .ladder .count) && climbs) (unusedSpeeds s) ladder-is
+  abbrev stands : Bool
+  stands = voltsNeverFall 0 (voltsOf (s .ladder))
 
-  speeds-counted : upToMost mostSpeeds (s .ladder .count) ≡ true
-  speeds-counted = both-left (upToMost mostSpeeds (s .ladder .count)) climbs counted-climbs
+  abbrev unused : Bool
+  unused = every (unusedRung (s .ladder) (s .tally)) (drop (s .ladder .count) (upTo mostSpeeds (λ i. i)))
 
-  both-climb : (speedsRise 0 (speedsOf (s .ladder)) && voltsNeverFall 0 (voltsOf (s .ladder))) ≡ true
-  unfolding climbs
-  both-climb = both-right (upToMost mostSpeeds (s .ladder .count)) climbs counted-climbs
+  -- each of them holds, and says what it tests
+  climbs : (counts && rises && stands) ≡ true
+  unfolding ladderRight
+  climbs = both-left (counts && rises && stands) unused t
 
-  pub some-speed : 1 ≤ s .ladder .count
-  some-speed = range-from mostSpeeds (s .ladder .count) speeds-counted
+  counted-rise : (counts && rises) ≡ true
+  counted-rise = both-left (counts && rises) stands climbs
 
-  pub few-speeds : s .ladder .count ≤ mostSpeeds
-  few-speeds = range-to mostSpeeds (s .ladder .count) speeds-counted
+  some-speed : 1 ≤ s .ladder .count
+  some-speed = range-from mostSpeeds (s .ladder .count) (both-left counts rises counted-rise)
+
+  few-speeds : s .ladder .count ≤ mostSpeeds
+  few-speeds = range-to mostSpeeds (s .ladder .count) (both-left counts rises counted-rise)
 
   rise : speedsRise 0 (speedsOf (s .ladder)) ≡ true
-  rise = both-left (speedsRise 0 (speedsOf (s .ladder))) (voltsNeverFall 0 (voltsOf (s .ladder))) both-climb
+  rise = both-right counts rises counted-rise
 
   never-fall : voltsNeverFall 0 (voltsOf (s .ladder)) ≡ true
-  never-fall = both-right (speedsRise 0 (speedsOf (s .ladder))) (voltsNeverFall 0 (voltsOf (s .ladder))) both-climb
+  never-fall = both-right (counts && rises) stands climbs
 
   rungs-unused : (i : ℕ) → s .ladder .count ≤ i → i < mostSpeeds → unusedSpeed s i ≡ true
-  unfolding unusedSpeeds
+  unfolding ladderRight unusedRung unusedSpeed
   rungs-unused =
-      rest-at (unusedSpeed s) (s .ladder .count) mostSpeeds (λ i. i)
-      (both-right (upToMost mostSpeeds (s .ladder .count) && climbs) (unusedSpeeds s) ladder-is)
+      rest-at (unusedRung (s .ladder) (s .tally)) (s .ladder .count) mostSpeeds (λ i. i)
+      (both-right (counts && rises && stands) unused t)
 
   -- the top speed is in its range
-  pub top-most : topOf (speedsOf (s .ladder)) ≤ mostSpeed
+  top-most : topOf (speedsOf (s .ladder)) ≤ mostSpeed
   unfolding topOf
   top-most =
       let some : 1 ≤ length (speedsOf (s .ladder)) = rw (length-speeds s) some-speed in
       range-to mostSpeed (topOf (speedsOf (s .ladder))) (rise-range 0 (speedsOf (s .ladder)) rise (length (speedsOf (s .ladder)) - 1) (omega arith))
 
-module _ (done : Ticks) (tally : Tally) (top : ℕ) (t : tallyRight done tally top ≡ true) where
+module _ (done : Ticks) (tally : Tally) (top : Speed) (t : tallyRight done tally top ≡ true) where
   bounds : Bool
   bounds = leb (done .0) mostTicks && leb (tally .late) (16 * done .0) && leb (tally .cut) (16 * done .0)
 
   three : (leb (done .0) mostTicks && leb (tally .late) (16 * done .0) && leb (tally .cut) (16 * done .0)) ≡ true
   unfolding tallyRight bounds
-  three = both-left bounds (countedWithin tally (done .0 * top)) t
+  three = both-left bounds (countedWithin tally (cyclesIn top done .0)) t
 
   two : (leb (done .0) mostTicks && leb (tally .late) (16 * done .0)) ≡ true
   two = both-left (leb (done .0) mostTicks && leb (tally .late) (16 * done .0)) (leb (tally .cut) (16 * done .0)) three
@@ -176,25 +185,31 @@ module _ (done : Ticks) (tally : Tally) (top : ℕ) (t : tallyRight done tally t
       leb-true (tally .cut) (16 * done .0)
       (both-right (leb (done .0) mostTicks && leb (tally .late) (16 * done .0)) (leb (tally .cut) (16 * done .0)) three)
 
-  tally-cycles : total (λ (c : Cycles). c .0) (tally .counts) + tally .idle .0 ≤ done .0 * top
+  tally-cycles : total (λ (c : Cycles). c .0) (tally .counts) + tally .idle .0 ≤ cyclesIn top done .0
   unfolding tallyRight countedWithin bounds
   tally-cycles =
-      leb-true (total (λ (c : Cycles). c .0) (tally .counts) + tally .idle .0) (done .0 * top)
-      (both-right bounds (countedWithin tally (done .0 * top)) t)
+      leb-true (total (λ (c : Cycles). c .0) (tally .counts) + tally .idle .0) (cyclesIn top done .0)
+      (both-right bounds (countedWithin tally (cyclesIn top done .0)) t)
 
 -- all tests together make a sound state
 pub record Tests (s : State) : Type 0 where
   pub tasks : tasksRight (s .tasks) (s .jobs) ≡ true
   pub ladder : ladderRight (s .ladder) (s .tally) ≡ true
-  pub tally : tallyRight (s .done) (s .tally) (topOf (speedsOf (s .ladder))) ≡ true
+  pub tally : tallyRight (s .done) (s .tally) (topIn (s .ladder)) ≡ true
   pub small : s .tasks .great .0 ≤ mostGreat
   pub great : greatTest (sumsTo (s .tasks) (s .jobs) (s .tasks .count)) ≡ true
-  pub full : leb (sumsTo (s .tasks) (s .jobs) (s .tasks .count) .full .0) (topOf (speedsOf (s .ladder)) * s .tasks .great .0) ≡ true
+  pub full : leb (sumsTo (s .tasks) (s .jobs) (s .tasks .count) .full .0) (topIn (s .ladder) .0 * s .tasks .great .0) ≡ true
 
+-- the table is admitted, and the counts are within t x top speed
 tests-admit : (s : State) → Tests s → fullLoad (s .tasks .great .0) (periodsOf (s .tasks)) (reservesOf (s .tasks)) ≤ topOf (speedsOf (s .ladder)) * s .tasks .great .0
 tests-admit s t =
-    subst (λ (x : ℕ). x ≤ topOf (speedsOf (s .ladder)) * s .tasks .great .0) (full-is (s .tasks) (s .jobs))
-    (leb-true (sumsTo (s .tasks) (s .jobs) (s .tasks .count) .full .0) (topOf (speedsOf (s .ladder)) * s .tasks .great .0) (t .full))
+    rw (full-is (s .tasks) (s .jobs), top-is (s .ladder) (few-speeds s (t .ladder)))
+    at (leb-true (sumsTo (s .tasks) (s .jobs) (s .tasks .count) .full .0) (topIn (s .ladder) .0 * s .tasks .great .0) (t .full))
+
+tests-cycles : (s : State) → Tests s → total (λ (c : Cycles). c .0) (s .tally .counts) + s .tally .idle .0 ≤ s .done .0 * topOf (speedsOf (s .ladder))
+tests-cycles s t =
+    rw (bound-is s (few-speeds s (t .ladder)) (top-most s (t .ladder)) (tally-done _ _ _ (t .tally)))
+    at (tally-cycles _ _ _ (t .tally))
 
 tests-facts : (s : State) → Tests s → Sound s
 tests-facts s t =
@@ -216,7 +231,7 @@ tests-facts s t =
       unused-job = past-unused s (t .tasks);
       unused-speed = rungs-unused s (t .ladder);
       done-most = tally-done _ _ _ (t .tally);
-      cycles-most = tally-cycles _ _ _ (t .tally);
+      cycles-most = tests-cycles s t;
       late-most = tally-late _ _ _ (t .tally);
       cut-most = tally-cut _ _ _ (t .tally);
     }

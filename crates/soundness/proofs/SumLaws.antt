@@ -16,8 +16,9 @@ use Rattle.rules.specs.Numbers.{runRight}
 use Rattle.rules.proofs.Lists.{both-left, both-right, upTo-at}
 use Rattle.rules.proofs.Loads.{mostTerm, use-most}
 use Rattle.rules.proofs.Ranges.{range-from, range-to}
+use Rattle.places.specs.Places.{jobRight}
 use Rattle.soundness.specs.declared.sums.Sums.{Sums}
-use Rattle.soundness.specs.Parts.{jobRight, noSums, withJob, sumsTo, Room, Summable}
+use Rattle.soundness.specs.Parts.{noSums, withJob, sumsTo, Room, Summable}
 
 -- what a task that is right has
 module _ (j : Job) (e : jobRight j ≡ true) where

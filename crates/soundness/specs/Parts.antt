@@ -2,69 +2,20 @@
 use Prim.Native.Nat.{ℕ, zero, suc, _+_, _-_, _*_, _/_, _≤_}
 use mathlib.Core.Path.{_≡_}
 use mathlib.Core.Bool.{Bool, true, _&&_}
-use mathlib.Core.List.{List}
-use lib.Dec.{eqb, leb}
-use lib.ListN.{getD, drop}
+use lib.Dec.{eqb}
 use Rattle.divisors.specs.Divisors.{gcdOf}
-use Rattle.units.specs.Units.{ticks, cycles, speed, volts}
+use Rattle.units.specs.Units.{ticks, cycles}
 use Rattle.units.specs.declared.Ticks.{Ticks}
-use Rattle.units.specs.declared.Cycles.{Cycles}
-use Rattle.units.specs.declared.Speed.{Speed}
-use Rattle.units.specs.declared.Volts.{Volts}
 use Rattle.rules.specs.declared.Tasks.{Tasks}
 use Rattle.rules.specs.declared.Jobs.{Jobs}
 use Rattle.rules.specs.declared.Job.{Job}
-use Rattle.rules.specs.declared.Ladder.{Ladder}
-use Rattle.rules.specs.declared.Tally.{Tally}
-use Rattle.rules.specs.Words.{upTo, total, every}
-use Rattle.rules.specs.Limits.{mostTasks, mostPeriod, mostReserve, mostSpeeds, mostGreat, mostTicks, upToMost}
+use Rattle.rules.specs.Words.{every}
+use Rattle.rules.specs.Limits.{mostTasks, mostGreat}
 use Rattle.rules.specs.State.{jobAt, jobsOf}
 use Rattle.rules.specs.Load.{useOf}
-use Rattle.rules.specs.Numbers.{speedsRise, voltsNeverFall, unusedJob, runRight}
 use Rattle.rules.proofs.Loads.{mostTerm}
+use Rattle.places.specs.Places.{jobRight}
 use Rattle.soundness.specs.declared.sums.Sums.{Sums}
-
--- a task in its ranges, with its job's run right; the task places from the count on; the whole task side
-unfoldable pub jobRight : Job → Bool
-jobRight j = upToMost mostPeriod (j .period .0) && upToMost mostReserve (j .reserve .0) && runRight j
-
-unfoldable pub jobsPast : Tasks → Jobs → List Job
-jobsPast ts js = drop (ts .count) (upTo mostTasks (jobAt ts js))
-
-unfoldable pub tasksRight : Tasks → Jobs → Bool
-tasksRight ts js = upToMost mostTasks (ts .count) && every jobRight (jobsOf ts js) && every unusedJob (jobsPast ts js)
-
--- what is left to test of numbers 5 and 6 from place i on, after a speed and a volt value
-unfoldable pub climbing : ℕ → List Speed → List Volts → ℕ → ℕ → ℕ → Bool
-climbing count ss vs low faint i =
-    speedsRise low (drop i (upTo count (λ k. getD ss k (speed 0) .0)))
-    && voltsNeverFall faint (drop i (upTo count (λ k. getD vs k (volts 0) .0)))
-
--- a speed place that is unused, all of them from place i on, and the whole speed side
-unfoldable pub unusedRung : Speed → Volts → Cycles → Bool
-unusedRung s v c = eqb (s .0) 0 && eqb (v .0) 0 && eqb (c .0) 0
-
-unfoldable pub rungsPast : List Speed → List Volts → List Cycles → ℕ → Bool
-rungsPast ss vs cs i =
-    every (λ k. unusedRung (getD ss k (speed 0)) (getD vs k (volts 0)) (getD cs k (cycles 0)))
-    (drop i (upTo mostSpeeds (λ k. k)))
-
-unfoldable pub ladderRight : Ladder → Tally → Bool
-ladderRight l t =
-    upToMost mostSpeeds (l .count)
-    && climbing (l .count) (l .speeds) (l .volts) 0 0 0
-    && rungsPast (l .speeds) (l .volts) (t .counts) (l .count)
-
--- counts and idle together against a most, and the whole tally against t and the top speed
-unfoldable pub countedWithin : Tally → ℕ → Bool
-countedWithin t most = leb (total (λ (c : Cycles). c .0) (t .counts) + t .idle .0) most
-
-unfoldable pub tallyRight : Ticks → Tally → ℕ → Bool
-tallyRight done t top =
-    leb (done .0) mostTicks
-    && leb (t .late) (16 * done .0)
-    && leb (t .cut) (16 * done .0)
-    && countedWithin t (done .0 * top)
 
 -- the sums of no task, with one task more, and of the first n tasks
 unfoldable pub noSums : Sums

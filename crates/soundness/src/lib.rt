@@ -1,9 +1,5 @@
 // Whether a state is sound, and its load where it is. Every clause of document 01's soundness is tested once, for any numbers that the state may hold.
-mod places;
-mod ranges;
-mod rungs;
 mod sums;
-mod tallies;
 
 ghost use mathlib.Core.Path.{_≡_};
 ghost use Rattle.soundness.specs.Survey.{surveyOf, unsoundSurvey};

@@ -1,17 +1,19 @@
 -- `survey` is soundness and load: each test that fails makes the state unsound, and all of them make it sound.
 use borrow.Author.Needs.{needs}
-use mathlib.Core.Path.{_≡_, sym, subst, ap, ap₂, _∙_}
+use mathlib.Core.Path.{_≡_, ap, ap₂, _∙_}
 use mathlib.Core.Bool.{true}
-use Prim.Native.Nat.{ℕ, _*_, _≤_}
+use Prim.Native.Nat.{_*_}
 use native.Mathlib.Omega.{arith}
 use lib.Dec.{leb}
+use Rattle.units.specs.declared.Speed.{Speed}
 use Rattle.rules.specs.declared.State.{State}
-use Rattle.rules.specs.Limits.{mostSpeed}
-use Rattle.rules.specs.State.{speedsOf, topOf}
+use Rattle.rules.proofs.Answers.{passed, failed}
+use Rattle.places.specs.Places.{tasksRight}
+use Rattle.rungs.specs.Rungs.{ladderRight, topIn}
+use Rattle.tallies.specs.Tallies.{tallyRight}
 use Rattle.soundness.specs.declared.sums.Sums.{Sums}
-use Rattle.soundness.specs.Parts.{tasksRight, ladderRight, tallyRight, sumsTo, greatTest}
-use Rattle.soundness.proofs.Answers.{passed, failed}
-use Rattle.soundness.proofs.Clauses.{tasks-hold, ladder-holds, tally-holds, great-holds, full-holds, summable, some-speed, few-speeds, top-most, survey-refused, survey-failed, survey-passed}
+use Rattle.soundness.specs.Parts.{sumsTo, greatTest}
+use Rattle.soundness.proofs.Clauses.{tasks-hold, ladder-holds, tally-holds, great-holds, full-holds, summable, survey-refused, survey-failed, survey-passed}
 use Rattle.soundness.proofs.survey.Statement.{statement}
 use Rattle.soundness.proofs.survey.Tie as tie
 
@@ -20,8 +22,8 @@ abbrev st : tie.Start → State
 st c = c .args .state
 
 -- its top speed and its sums
-abbrev top : tie.Start → ℕ
-top c = topOf (speedsOf (st c .ladder))
+abbrev top : tie.Start → Speed
+top c = topIn (st c .ladder)
 
 abbrev sums : tie.Start → Sums
 sums c = sumsTo (st c .tasks) (st c .jobs) (st c .tasks .count)
@@ -42,13 +44,13 @@ tally-told c =
 great-told : (c : tie.After-great-right) → c .great-right .result ≡ greatTest (sums (c .before .before .before .before .before .before .before .before .before .before .before .before .before .before .before .before .before))
 great-told c = c .great-right .ensures ∙ ap greatTest (c .before .sums-of .ensures)
 
-full-told : (c : tie.After-carries) → c .carries .result ≡ leb (sums (c .before .before .before .before .before .before .before .before .before .before .before .before .before .before .before .before .before .before .before .before) .full .0) (top (c .before .before .before .before .before .before .before .before .before .before .before .before .before .before .before .before .before .before .before .before) * st (c .before .before .before .before .before .before .before .before .before .before .before .before .before .before .before .before .before .before .before .before) .tasks .great .0)
+full-told : (c : tie.After-carries) → c .carries .result ≡ leb (sums (c .before .before .before .before .before .before .before .before .before .before .before .before .before .before .before .before .before .before .before .before) .full .0) (top (c .before .before .before .before .before .before .before .before .before .before .before .before .before .before .before .before .before .before .before .before) .0 * st (c .before .before .before .before .before .before .before .before .before .before .before .before .before .before .before .before .before .before .before .before) .tasks .great .0)
 full-told c =
     let s = st (c .before .before .before .before .before .before .before .before .before .before .before .before .before .before .before .before .before .before .before .before) in
     let made = c .before .before .before .before in
     let above = made .before .before .before .before .before .before .before in
     c .carries .ensures
-    ∙ ap₂ (λ (m : Sums) (t : ℕ). leb (m .full .0) (t * s .tasks .great .0)) (made .sums-of .ensures) (above .top-of .ensures)
+    ∙ ap₂ (λ (m : Sums) (t : Speed). leb (m .full .0) (t .0 * s .tasks .great .0)) (made .sums-of .ensures) (above .top-of .ensures)
 
 tasks-right-requires : tie.Need-tasks-right-requires
 tasks-right-requires c κs = search needs
@@ -75,14 +77,10 @@ returns-2 c =
     ∙ survey-failed s _ (ladder-holds s) (failed (c .before .before .ladder-right .ensures) (c .before .if2 .taken))
 
 top-of-requires : tie.Need-top-of-requires
-top-of-requires c κs =
-    let s = st (c .before .before .before .before .before .before .before .before) in
-    (some-speed s (ladder-passed c), few-speeds s (ladder-passed c))
+top-of-requires c κs = search needs
 
 tally-right-requires : tie.Need-tally-right-requires
-tally-right-requires c κs =
-    let p = c .before .before in
-    subst (λ (x : ℕ). x ≤ mostSpeed) (sym (c .before .top-of .ensures)) (top-most (st (p .before .before .before .before .before .before .before .before)) (ladder-passed p))
+tally-right-requires c κs = search needs
 
 unsound-requires-3 : tie.Need-unsound-requires-3
 unsound-requires-3 c κs = search needs
