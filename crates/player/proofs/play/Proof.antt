@@ -1,6 +1,7 @@
 -- `play` reads, starts and plays: each of its four ways out is a case of the definition, and what a run asks for comes from the file that was read and from start.
 use borrow.Author.Needs.{needs}
 use mathlib.Core.Path.{_∙_}
+use Prim.Native.Nat.{zero-le}
 use native.Mathlib.Omega.{arith}
 use Rattle.runfile.specs.Good.{GoodFile}
 use Rattle.player.proofs.Outcomes.{no-file, good, no-start, no-room, all-played, runnable, width-fits, needed-fits}
@@ -23,10 +24,10 @@ keeps : (c : tie.Else1) → GoodFile (told c .read .result)
 keeps c = good (begin (told c) .args .text .now) (told c .read .result) (told c .read .ensures) (begin (told c) .args .rows .now) (c .if1 .left)
 
 read-requires : tie.Need-read-requires
-read-requires c κs = search needs
+read-requires c κs = tt
 
 unplayed-requires : tie.Need-unplayed-requires
-unplayed-requires c κs = search needs
+unplayed-requires c κs = tt
 
 returns : tie.Need-returns
 returns c = let a = c .before .before .before in
@@ -34,50 +35,50 @@ returns c = let a = c .before .before .before in
     (c .unplayed .ensures ∙ done .0, done .1)
 
 sub-start : tie.Need-sub-start
-sub-start c = search needs
+sub-start c = zero-le
 
 part-start-start : tie.Need-part-start-start
-part-start-start c = search needs
+part-start-start c = zero-le
 
 part-start-end : tie.Need-part-start-end
 part-start-end c = let k = keeps (c .before .before .before .before .before .before .before) in
     omega (arith, k .tasks .few, k .tasks .firsts)
 
 sub-start-2 : tie.Need-sub-start-2
-sub-start-2 c = search needs
+sub-start-2 c = zero-le
 
 part-start-start-2 : tie.Need-part-start-start-2
-part-start-start-2 c = search needs
+part-start-start-2 c = zero-le
 
 part-start-end-2 : tie.Need-part-start-end-2
 part-start-end-2 c = let k = keeps (c .before .before .before .before .before .before .before .before .before) in
     omega (arith, k .tasks .few, k .tasks .seconds)
 
 sub-start-3 : tie.Need-sub-start-3
-sub-start-3 c = search needs
+sub-start-3 c = zero-le
 
 part-start-start-3 : tie.Need-part-start-start-3
-part-start-start-3 c = search needs
+part-start-start-3 c = zero-le
 
 part-start-end-3 : tie.Need-part-start-end-3
 part-start-end-3 c = let k = keeps (c .before .before .before .before .before .before .before .before .before .before .before) in
     omega (arith, k .speeds .few, k .speeds .firsts)
 
 sub-start-4 : tie.Need-sub-start-4
-sub-start-4 c = search needs
+sub-start-4 c = zero-le
 
 part-start-start-4 : tie.Need-part-start-start-4
-part-start-start-4 c = search needs
+part-start-start-4 c = zero-le
 
 part-start-end-4 : tie.Need-part-start-end-4
 part-start-end-4 c = let k = keeps (c .before .before .before .before .before .before .before .before .before .before .before .before .before) in
     omega (arith, k .speeds .few, k .speeds .seconds)
 
 start-requires : tie.Need-start-requires
-start-requires c κs = search needs
+start-requires c κs = tt
 
 unplayed-requires-2 : tie.Need-unplayed-requires-2
-unplayed-requires-2 c κs = search needs
+unplayed-requires-2 c κs = tt
 
 returns-2 : tie.Need-returns-2
 returns-2 c = let a = c .before .before .before in
@@ -94,7 +95,7 @@ mul-if3 c = let e = passed (c .before .before) in
     needed-fits (begin (told e) .args .text .now) (told e .read .result) (told e .read .ensures) (begin (told e) .args .rows .now) (e .if1 .left)
 
 unplayed-requires-3 : tie.Need-unplayed-requires-3
-unplayed-requires-3 c κs = search needs
+unplayed-requires-3 c κs = tt
 
 returns-3 : tie.Need-returns-3
 returns-3 c = let a = c .before .before .before .before in

@@ -1,6 +1,6 @@
 -- `play_run` goes from tick to tick: what is still to come of the run is what the whole of it comes to, and the cursor stands at the end lines of the tick.
 use mathlib.Core.Path.{_∙_}
-use Prim.Native.Nat.{_+_, _-_, _≤_}
+use Prim.Native.Nat.{zero-le, _+_, _-_, _≤_}
 use native.Mathlib.Omega.{arith}
 use borrow.Rule.Slice.PartMut.{mid-len}
 use lib.ListN.{length, take}
@@ -36,40 +36,40 @@ loop-holds c = let b = c .before .before .before .before .before in
     going-first _ _ _ _ _ (b .pre .fresh)
 
 sub-enter : tie.Need-sub-enter Inv-loop μ-loop
-sub-enter c = omega arith
+sub-enter c = zero-le
 
 part-enter-start : tie.Need-part-enter-start Inv-loop μ-loop
-part-enter-start c = omega arith
+part-enter-start c = zero-le
 
 part-enter-end : tie.Need-part-enter-end Inv-loop μ-loop
 part-enter-end c = let p = begin (c .before .before) .pre in
     omega (arith, p .short, p .ticks)
 
 sub-enter-2 : tie.Need-sub-enter-2 Inv-loop μ-loop
-sub-enter-2 c = omega arith
+sub-enter-2 c = zero-le
 
 part-enter-start-2 : tie.Need-part-enter-start-2 Inv-loop μ-loop
-part-enter-start-2 c = omega arith
+part-enter-start-2 c = zero-le
 
 part-enter-end-2 : tie.Need-part-enter-end-2 Inv-loop μ-loop
 part-enter-end-2 c = let p = begin (c .before .before .before .before) .pre in
     omega (arith, p .short, p .tasks)
 
 sub-enter-3 : tie.Need-sub-enter-3 Inv-loop μ-loop
-sub-enter-3 c = omega arith
+sub-enter-3 c = zero-le
 
 part-enter-start-3 : tie.Need-part-enter-start-3 Inv-loop μ-loop
-part-enter-start-3 c = omega arith
+part-enter-start-3 c = zero-le
 
 part-enter-end-3 : tie.Need-part-enter-end-3 Inv-loop μ-loop
 part-enter-end-3 c = let p = begin (c .before .before .before .before .before .before) .pre in
     omega (arith, p .short, p .cycles)
 
 sub-enter-4 : tie.Need-sub-enter-4 Inv-loop μ-loop
-sub-enter-4 c = omega arith
+sub-enter-4 c = zero-le
 
 part-report-start : tie.Need-part-report-start Inv-loop μ-loop
-part-report-start c = omega arith
+part-report-start c = zero-le
 
 part-report-end : tie.Need-part-report-end Inv-loop μ-loop
 part-report-end c = let p = begin (c .before .before .before .before .before .before .before) .pre in
@@ -86,10 +86,10 @@ add-after-2 : tie.Need-add-after-2 Inv-loop μ-loop
 add-after-2 c = record { fits = omega (arith, room-for (c .before .before .before .before .before .before .before .before .before)) }
 
 sub-play-tick : tie.Need-sub-play-tick Inv-loop μ-loop
-sub-play-tick c = omega arith
+sub-play-tick c = zero-le
 
 part-play-tick-start : tie.Need-part-play-tick-start Inv-loop μ-loop
-part-play-tick-start c = omega arith
+part-play-tick-start c = zero-le
 
 part-play-tick-end : tie.Need-part-play-tick-end Inv-loop μ-loop
 part-play-tick-end c = let e = c .before .before in

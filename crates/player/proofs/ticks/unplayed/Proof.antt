@@ -1,23 +1,23 @@
 -- `unplayed` answers the all-zero state, which start gives for no table.
-use borrow.Author.Needs.{needs}
+use mathlib.Core.Path.{refl}
 use Rattle.player.proofs.Begins.{nothing-played}
 use Rattle.player.proofs.ticks.unplayed.Statement.{statement}
 use Rattle.player.proofs.ticks.unplayed.Tie as tie
 
 slice-aggregate-start : tie.Need-slice-aggregate-start
-slice-aggregate-start c = search needs
+slice-aggregate-start c = refl
 
 slice-aggregate-start-2 : tie.Need-slice-aggregate-start-2
-slice-aggregate-start-2 c = search needs
+slice-aggregate-start-2 c = refl
 
 slice-aggregate-start-3 : tie.Need-slice-aggregate-start-3
-slice-aggregate-start-3 c = search needs
+slice-aggregate-start-3 c = refl
 
 slice-aggregate-start-4 : tie.Need-slice-aggregate-start-4
-slice-aggregate-start-4 c = search needs
+slice-aggregate-start-4 c = refl
 
 start-requires : tie.Need-start-requires
-start-requires c κs = search needs
+start-requires c κs = tt
 
 returns : tie.Need-returns
 returns c = nothing-played (c .before .start .result) (c .before .start .ensures) _ _
