@@ -31,9 +31,9 @@ end-of-text text at h = simp (le-leb _ _ h)
 
 module _ (text : List ℕ) (at : ℕ) (within : at < length text) where
   -- LF ends a line
-  pub lf : getD text at 0 ≡ 10 → Next (at + 1) ≡ lineEnd text at
+  pub lf-ends : getD text at 0 ≡ 10 → Next (at + 1) ≡ lineEnd text at
   unfolding lineEnd
-  lf e = simp (lt-leb _ _ within, byte-there text at 10 within e)
+  lf-ends e = simp (lt-leb _ _ within, byte-there text at 10 within e)
 
   -- a byte that is neither LF nor CR ends none
   pub neither : (getD text at 0 ≡ 10 → ⊥) → (getD text at 0 ≡ 13 → ⊥) → Missing ≡ lineEnd text at

@@ -1,2 +1,4 @@
 pub mod Breaks
 pub mod Chains
+pub mod Spelled
+pub mod Unread

@@ -14,8 +14,8 @@ use Rattle.rules.specs.Numbers.{sound}
 use Rattle.rules.specs.Calls.{tickOf}
 use Rattle.rules.proofs.Lists.{upTo-ext}
 use Rattle.player.specs.Plays.{End, Play, tickPlayed, ended, before, playFrom}
-use Rattle.player.proofs.TickShares.{tick-right}
-use Rattle.player.proofs.PlayLaws.{reportNow, answer, numberNow, done-next, tasks-next, by-ticks}
+use Rattle.played.proofs.TickShares.{tick-right}
+use Rattle.played.proofs.PlayLaws.{reportNow, answer, numberNow, done-next, tasks-next, by-ticks}
 use Rattle.promises.specs.Runs.{Call, ticked, after, stepOf, steps, granted}
 use Rattle.played.specs.PlaysAreRuns.{callAt, shown}
 

@@ -8,7 +8,7 @@ use Rattle.rules.specs.Calls.{energyOf}
 use Rattle.runfile.specs.declared.RunFile.{RunFile}
 use Rattle.runfile.specs.RunFile.{runFileOf}
 use Rattle.player.specs.Plays.{End, Tick, Play, endsIn, reportOf, playOf}
-use Rattle.player.specs.Promised.{grantedIn}
+use Rattle.played.specs.Promised.{grantedIn}
 use Rattle.promises.specs.Runs.{Table, Call, Step, started, after, steps, granted}
 use Rattle.promises.specs.Counts.{voltsBeside}
 

@@ -9,8 +9,3 @@ pub mod Reports
 pub mod Lines
 pub mod Runs
 pub mod Outcomes
-pub mod TickShares
-pub mod PlayLaws
-pub mod StartLaws
-pub mod TextLaws
-pub mod Promises

@@ -1,4 +1,3 @@
 pub mod Plays
 pub mod Rows
 pub mod Parts
-pub mod Promised

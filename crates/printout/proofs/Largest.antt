@@ -11,8 +11,8 @@ use Rattle.decimal.specs.Decimal.{decimalOf}
 use Rattle.decimal.proofs.Written.{narrow}
 use Rattle.player.specs.Plays.{Tick, Play, playOf}
 use Rattle.player.specs.Rows.{rowOf}
-use Rattle.player.specs.Promised.{TickRight, EachTick, PlayRight}
-use Rattle.player.proofs.TextLaws.{text-right}
+use Rattle.played.specs.Promised.{TickRight, EachTick, PlayRight}
+use Rattle.played.proofs.TextLaws.{text-right}
 use Rattle.printout.specs.Print.{totalWord, refusedWord, fieldOf, fieldsOf, lineOf, tickLines, totalsOf, lastLine, textOf, printOf}
 use Rattle.printout.specs.Largest.{mostPrinted, NeverLonger}
 use Rattle.printout.proofs.Fields.{field-length, fields-few, line-length}

@@ -11,8 +11,8 @@ use Rattle.runfile.specs.RunFile.{runFileOf}
 use Rattle.player.specs.declared.Played.{Played}
 use Rattle.player.specs.Plays.{Play, playOf}
 use Rattle.player.specs.Rows.{rowsOf, enough, playedOf, rowsIn}
-use Rattle.player.specs.Promised.{PlayRight, mostPlaces}
-use Rattle.player.proofs.TextLaws.{text-right, text-enough}
+use Rattle.played.specs.Promised.{PlayRight, mostPlaces}
+use Rattle.played.proofs.TextLaws.{text-right, text-enough}
 use Rattle.printout.specs.Print.{printOf}
 use Rattle.printout.specs.Largest.{NeverLonger}
 use Rattle.printout.specs.Parts.{Summed, lastFor, linesOf, rendered, Renderable}

@@ -11,7 +11,7 @@ use lib.Seq.{sets, sets-eq, take-at, drop-at}
 use Rattle.decimal.specs.Decimal.{decimalOf}
 use Rattle.player.specs.Plays.{Tick, Play}
 use Rattle.player.specs.Rows.{rowOf, rowsOf}
-use Rattle.player.specs.Promised.{TickRight, EachTick}
+use Rattle.played.specs.Promised.{TickRight, EachTick}
 use Rattle.printout.specs.Print.{lineOf, tickLines, totalsOf, lastLine, textOf}
 use Rattle.printout.specs.Parts.{rowLines, wordOf, lastOf, lastFor, linesOf, rendered}
 

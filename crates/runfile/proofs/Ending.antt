@@ -42,7 +42,7 @@ module _ (text : List ℕ) (known at earlier former : ℕ) (sofar : Ends) where
       end-not-good (suc left) g h = rw (e, ← d, q, ← g, h)
 
       -- a good line leaves one line less to read
-      one-end : (left : ℕ) {good : Bool} → good ≡ endGood known earlier former tick task cycles → good ≡ true → endsFrom text known (suc left) at earlier former sofar ≡ endsFrom text known left next tick task (moreEnds sofar tick task cycles)
+      pub one-end : (left : ℕ) {good : Bool} → good ≡ endGood known earlier former tick task cycles → good ≡ true → endsFrom text known (suc left) at earlier former sofar ≡ endsFrom text known left next tick task (moreEnds sofar tick task cycles)
       unfolding endsFrom withEnd
       one-end left g t = rw (e, ← d, q, ← g, t)
 

@@ -7,3 +7,6 @@ pub mod Stages
 pub mod Kept
 pub mod Risen
 pub mod Good
+pub mod FromLines
+pub mod ToLines
+pub mod Spelled

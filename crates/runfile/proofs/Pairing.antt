@@ -37,7 +37,7 @@ module _ (word text : List ℕ) (at : ℕ) (sofar : Pairs) where
     line-wrong (suc left) h = rw (e, ← d, h)
 
     -- a line with two numbers leaves one line less to read
-    one-line : (left : ℕ) {first second next : ℕ} → line ≡ Pair first second next → pairsFrom word text (suc left) at sofar ≡ pairsFrom word text left next (morePairs sofar first second)
+    pub one-line : (left : ℕ) {first second next : ℕ} → line ≡ Pair first second next → pairsFrom word text (suc left) at sofar ≡ pairsFrom word text left next (morePairs sofar first second)
     unfolding pairsFrom withPair
     one-line left q = rw (e, ← d, q)
 

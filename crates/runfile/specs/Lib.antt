@@ -1,3 +1,4 @@
 pub mod Groups
 pub mod RunFile
 pub mod Good
+pub mod Spelled

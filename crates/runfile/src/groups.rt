@@ -5,10 +5,11 @@ ghost use Prim.Native.Nat.{_≤_};
 ghost use lib.Dec.{leb, ltb};
 ghost use lib.ListN.{take};
 ghost use Rattle.runfile.specs.Groups.{noPairs, noEnds, pairsFrom, endsFrom, endGood, wrongPairs, wrongEnds};
-ghost use Rattle.runfile.specs.RunFile.{noRunFile, all, mostRunTicks};
+ghost use Rattle.runfile.specs.RunFile.{noRunFile, all, mostRunTicks, afterEnds};
 use crate::Ends;
 use crate::Pairs;
 use crate::RunFile;
+use decimal::Field;
 use lines::EndLine;
 use lines::PairLine;
 
@@ -95,6 +96,37 @@ pub(crate) fn ends(text: &[u8], at: usize, known: usize) -> EndsRead
         good: true,
         ends: sofar,
         next: next,
+    }
+}
+
+// The end lines and the run line, after the task lines and the speed lines. A field that is no number ends the reading there.
+pub(crate) fn last_lines(text: &[u8], at: usize, tasks: Pairs, speeds: Pairs) -> RunFile
+    ensures { λ r. ⌜ r ≡ afterEnds (now (text .entry)) tasks speeds (endsFrom (now (text .entry)) (tasks .count) 1000 at 0 0 noEnds) ⌝ }
+{
+    let read = ends(text, at, tasks.count);
+    if !read.good {
+        return no_run_file();
+    }
+    let Field::Number {
+        value: ticks,
+        next: after,
+    } = lines::run_line(text, read.next)
+    else {
+        return no_run_file();
+    };
+    if after != text.len() {
+        return no_run_file();
+    }
+    let ends = read.ends;
+    if !closes(ends, ticks) {
+        return no_run_file();
+    }
+    RunFile {
+        number: 0,
+        tasks: tasks,
+        speeds: speeds,
+        ends: ends,
+        ticks: ticks,
     }
 }
 

@@ -3,7 +3,6 @@ mod groups;
 
 ghost use mathlib.Core.Path.{_≡_};
 ghost use Rattle.runfile.specs.RunFile.{runFileOf};
-use decimal::Field;
 
 // Task lines (period, reserve) or speed lines (speed, volts): how many, and the two numbers of each; zero past the last.
 pub struct Pairs {
@@ -29,7 +28,7 @@ pub struct RunFile {
     pub ticks: u64,
 }
 
-// The run file that a text is; 14 where it is none. A field that is no number ends the reading there.
+// The run file that a text is; 14 where it is none.
 pub fn read(text: &[u8]) -> RunFile
     ensures { λ r. ⌜ r ≡ runFileOf (now (text .entry)) ⌝ }
 {
@@ -45,30 +44,6 @@ pub fn read(text: &[u8]) -> RunFile
         return groups::no_run_file();
     }
     let task_lines = tasks.pairs;
-    let ends = groups::ends(text, speeds.next, task_lines.count);
-    if !ends.good {
-        return groups::no_run_file();
-    }
-    let Field::Number {
-        value: ticks,
-        next: after,
-    } = lines::run_line(text, ends.next)
-    else {
-        return groups::no_run_file();
-    };
     let speed_lines = speeds.pairs;
-    let end_lines = ends.ends;
-    if after != text.len() {
-        return groups::no_run_file();
-    }
-    if !groups::closes(end_lines, ticks) {
-        return groups::no_run_file();
-    }
-    RunFile {
-        number: 0,
-        tasks: task_lines,
-        speeds: speed_lines,
-        ends: end_lines,
-        ticks: ticks,
-    }
+    groups::last_lines(text, speeds.next, task_lines, speed_lines)
 }

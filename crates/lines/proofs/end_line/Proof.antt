@@ -1,6 +1,6 @@
 -- The three numbers that `end_line` reads: each answer is taken apart, and the last makes the line.
-use Rattle.lines.proofs.Chains.{tick-none, task-none, cycles-none, end-whole}
 use borrow.Author.Needs.{needs}
+use Rattle.lines.proofs.Chains.{tick-none, task-none, cycles-none, end-whole}
 use Rattle.lines.proofs.end_line.Statement.{statement}
 use Rattle.lines.proofs.end_line.Tie as tie
 

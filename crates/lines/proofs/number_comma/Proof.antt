@@ -1,7 +1,7 @@
 -- The number that `number_comma` reads and the comma after it: the field's answer is taken apart.
+use borrow.Author.Needs.{needs}
 use Rattle.lines.proofs.Breaks.{byte-past, byte-other, byte-there}
 use Rattle.lines.proofs.Chains.{comma-none, comma-missing, comma-there}
-use borrow.Author.Needs.{needs}
 use Rattle.lines.proofs.number_comma.Statement.{statement}
 use Rattle.lines.proofs.number_comma.Tie as tie
 

@@ -1,6 +1,6 @@
 -- The number that `number_end` reads and the line's end after it: both answers are taken apart.
-use Rattle.lines.proofs.Chains.{end-none, end-missing, end-there}
 use borrow.Author.Needs.{needs}
+use Rattle.lines.proofs.Chains.{end-none, end-missing, end-there}
 use Rattle.lines.proofs.number_end.Statement.{statement}
 use Rattle.lines.proofs.number_end.Tie as tie
 

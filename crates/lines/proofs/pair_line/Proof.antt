@@ -1,6 +1,6 @@
 -- The two numbers that `pair_line` reads: each answer is taken apart, and the last makes the line.
-use Rattle.lines.proofs.Chains.{pair-none, pair-half, pair-whole}
 use borrow.Author.Needs.{needs}
+use Rattle.lines.proofs.Chains.{pair-none, pair-half, pair-whole}
 use Rattle.lines.proofs.pair_line.Statement.{statement}
 use Rattle.lines.proofs.pair_line.Tie as tie
 

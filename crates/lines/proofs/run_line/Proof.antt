@@ -1,13 +1,13 @@
 -- The run line that `run_line` reads: its word, then its one number.
-use Rattle.lines.proofs.Chains.{run-none, run-there}
 use mathlib.Core.Path.{sym, _∙_}
 use Prim.Native.Nat.{_+_, _≤_}
 use native.Mathlib.Omega.{arith}
+use borrow.Author.Needs.{needs}
+use borrow.Author.Tests.{not-true, not-false}
 use lib.ListN.{length}
 use Rattle.words.proofs.Begins.{stands-within}
 use Rattle.lines.specs.Lines.{runWord}
-use borrow.Author.Needs.{needs}
-use borrow.Author.Tests.{not-true, not-false}
+use Rattle.lines.proofs.Chains.{run-none, run-there}
 use Rattle.lines.proofs.run_line.Statement.{statement}
 use Rattle.lines.proofs.run_line.Tie as tie
 

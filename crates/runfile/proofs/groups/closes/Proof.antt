@@ -4,11 +4,11 @@ use mathlib.Core.Bool.{and-false}
 use Prim.Native.Nat.{_-_, _≤_}
 use native.Mathlib.Omega.{arith}
 use borrow.Author.Tests.{le-leb, lt-leb}
+use borrow.Author.Needs.{needs}
 use lib.Dec.{ltb}
 use lib.ListN.{length, take, drop}
 use Rattle.runfile.specs.RunFile.{all, mostRunTicks}
 use Rattle.runfile.proofs.Closing.{one-below, one-above, none-left}
-use borrow.Author.Needs.{needs}
 use Rattle.runfile.proofs.groups.closes.Statement.{statement}
 use Rattle.runfile.proofs.groups.closes.Tie as tie
 
@@ -20,7 +20,7 @@ abbrev μ-loop : tie.MeasureT-loop
 
 returns : tie.Need-returns Inv-loop μ-loop
 unfolding mostRunTicks
-returns c = simp (lt-leb (c .before .args .run) 10000 (c .if1 .taken))
+returns c = simp (lt-leb (c .before .args .run) 10000 (omega arith))
 
 loop-holds : tie.Need-loop-holds Inv-loop μ-loop
 loop-holds c = (omega arith, refl)
@@ -37,7 +37,7 @@ returns-2 c =
     let l = c .before .before in
     let a = l .before .before .before .args in
     let len : length (a .ends .ticks) ≡ 1000 = search needs in
-    let none = l .loop .inv .1 ∙ one-above (a .run) (a .ends .count) (a .ends .ticks) (l .loop .i) (omega arith) (c .before .loop-test .taken) (c .if2 .taken) in
+    let none = l .loop .inv .1 ∙ one-above (a .run) (a .ends .count) (a .ends .ticks) (l .loop .i) (omega arith) (c .before .loop-test .taken) (omega arith) in
     rw (none, and-false)
 
 add-i : tie.Need-add-i Inv-loop μ-loop
@@ -51,7 +51,7 @@ loop-again c =
     let l = c .before .before in
     let a = l .before .before .before .args in
     let len : length (a .ends .ticks) ≡ 1000 = search needs in
-    (omega arith, l .loop .inv .1 ∙ one-below (a .run) (a .ends .count) (a .ends .ticks) (l .loop .i) (omega arith) (c .before .loop-test .taken) (c .if2 .left))
+    (omega arith, l .loop .inv .1 ∙ one-below (a .run) (a .ends .count) (a .ends .ticks) (l .loop .i) (omega arith) (c .before .loop-test .taken) (omega arith))
 
 returns-3 : tie.Need-returns-3 Inv-loop μ-loop
 unfolding mostRunTicks
@@ -60,7 +60,7 @@ returns-3 c =
     let a = l .before .before .before .args in
     let len : length (a .ends .ticks) ≡ 1000 = search needs in
     let every = l .loop .inv .1 ∙ none-left (a .run) (a .ends .count) (a .ends .ticks) (l .loop .i) (omega arith) (c .loop-test .left) in
-    rw (every, le-leb (a .run) 10000 (l .before .before .if1 .left))
+    rw (every, le-leb (a .run) 10000 (omega arith))
 
 pub closes-spec : {M : Type 1} → statement M
 closes-spec =

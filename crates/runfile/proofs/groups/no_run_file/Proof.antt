@@ -1,6 +1,6 @@
 -- `no_run_file` answers 14 and nothing else, by its callees' contracts.
-use Rattle.runfile.specs.RunFile.{noRunFile}
 use borrow.Author.Needs.{needs}
+use Rattle.runfile.specs.RunFile.{noRunFile}
 use Rattle.runfile.proofs.groups.no_run_file.Statement.{statement}
 use Rattle.runfile.proofs.groups.no_run_file.Tie as tie
 

@@ -1,9 +1,9 @@
 -- `wrong_pairs` answers the wrong group, by its callee's contract.
 use mathlib.Core.Path.{ap}
 use mathlib.Core.Bool.{false}
+use borrow.Author.Needs.{needs}
 use Rattle.runfile.specs.declared.Pairs.{Pairs}
 use Rattle.runfile.specs.Groups.{wrongPairs}
-use borrow.Author.Needs.{needs}
 use Rattle.runfile.proofs.groups.wrong_pairs.Statement.{statement}
 use Rattle.runfile.proofs.groups.wrong_pairs.Tie as tie
 

@@ -16,9 +16,9 @@ use Rattle.rules.proofs.Soundness.{Sound}
 use Rattle.rules.proofs.Loads.{place-below, speed-some, speed-of-at}
 use Rattle.rules.proofs.Keeps.{jobs-right, settles, entries-allowed}
 use Rattle.rules.proofs.CallRows.{accepted, grants-written}
 use Rattle.player.specs.Plays.{tickPlayed}
-use Rattle.player.specs.Promised.{TickRight}
+use Rattle.played.specs.Promised.{TickRight}
 use Rattle.player.proofs.Shared.{sharesOf, speed-shared, speed-most, speed-told}
 
 -- an accepted tick of a state whose arrays have all their places, with a grants list as long as the task count
 module _ (s : State) (shape : Shaped s) (report : List ℕ) (e : tickNumber s report (s .tasks .count) ≡ 0) where

@@ -14,7 +14,7 @@ use Rattle.rules.specs.Numbers.{startNumber, sound}
 use Rattle.rules.specs.Calls.{tasksFrom, ladderFrom, freshJobs, freshTally, freshState, zeroState, startOf}
 use Rattle.rules.proofs.Lists.{length-upTo}
 use Rattle.rules.proofs.Fresh.{start-sound}
-use Rattle.player.specs.Promised.{countedIn}
+use Rattle.played.specs.Promised.{countedIn}
 
 -- rows give at most m where the first one and the rest do
 first-most : (m : ℕ) (b : Bool) (n : ℕ) (rows : List (Bool × ℕ)) → n ≤ m → firstOf rows ≤ m → firstOf ((b, n) ∷ rows) ≤ m

@@ -21,11 +21,11 @@ use Rattle.rules.proofs.Loads.{top-limit}
 use Rattle.runfile.specs.declared.RunFile.{RunFile}
 use Rattle.runfile.specs.RunFile.{runFileOf}
 use Rattle.runfile.proofs.Good.{good-file}
 use Rattle.player.specs.Plays.{Play, endsIn, ended, playFrom, playFile, playOf}
 use Rattle.player.specs.Rows.{rowsOf, enough}
-use Rattle.player.specs.Promised.{PlaysOn, PlayRight, OfTheBench, mostPlaces}
-use Rattle.player.proofs.PlayLaws.{plays-on}
-use Rattle.player.proofs.StartLaws.{start-most, start-refused, start-is-sound, start-is-shaped, start-done, start-counted, start-idle}
+use Rattle.played.specs.Promised.{PlaysOn, PlayRight, OfTheBench, mostPlaces}
+use Rattle.played.proofs.PlayLaws.{plays-on}
+use Rattle.played.proofs.StartLaws.{start-most, start-refused, start-is-sound, start-is-shaped, start-done, start-counted, start-idle}
 
 -- start's answer to the table of a run file
 abbrev pub startIn : RunFile → Started

@@ -26,10 +26,10 @@ use Rattle.rules.proofs.Soundness.{Sound, sound-facts}
 use Rattle.rules.proofs.Loads.{some-carries, place-below}
 use Rattle.rules.proofs.CallRows.{accepted, not-all-done, tick-0, tick-13, tick-accepted}
 use Rattle.rules.proofs.Keeps.{tick-sound, tick-shaped}
 use Rattle.player.specs.Plays.{End, Tick, Play, entryOf, reportOf, tickPlayed, ended, before, playFrom}
 use Rattle.player.specs.Rows.{rowOf, rowsOf}
-use Rattle.player.specs.Promised.{TickRight, EachTick, grantedIn, countedIn, PlaysOn}
-use Rattle.player.proofs.TickShares.{played-total, tick-right}
+use Rattle.played.specs.Promised.{TickRight, EachTick, grantedIn, countedIn, PlaysOn}
+use Rattle.played.proofs.TickShares.{played-total, tick-right}
 
 -- a report has an entry for each task
 pub report-long : (ends : List End) (n t : ℕ) → length (reportOf ends n t) ≡ n
