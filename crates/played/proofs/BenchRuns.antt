@@ -1,6 +1,7 @@
 -- On the bench: the play of a run file whose table start takes is a run as `promises` speaks of it, so no job of it is late and its energy is that of the ticks shown; a text without such a run has nothing played.
 use mathlib.Core.Path.{_≡_, refl, sym, ap, _∙_}
 use mathlib.Core.List.{List, [], _∷_, map}
+use mathlib.Core.Logic.{inl, inr, ⊎-elim}
 use Prim.Native.Nat.{ℕ, _+_}
 use native.Mathlib.Omega.{arith}
 use lib.ListN.{length}
@@ -17,7 +18,7 @@ use Rattle.runfile.proofs.Good.{good-file}
 use Rattle.player.specs.Plays.{Play, endsIn, ended, playOf}
 use Rattle.played.proofs.StartLaws.{start-is-sound, start-is-shaped, start-done, start-count}
 use Rattle.played.proofs.TextLaws.{startIn, of-text, text-played, run-room}
-use Rattle.promises.specs.Runs.{started, after, steps, granted}
+use Rattle.promises.specs.Runs.{started, ticked, after, steps, granted}
 use Rattle.promises.specs.Counts.{CountsComeFromTheGrants}
 use Rattle.promises.specs.NeverLate.{NeverLateInAnyRun}
 use Rattle.promises.proofs.Promises.{never-late, counts}
@@ -56,10 +57,19 @@ module _ (text : List ℕ) (e : runFileOf text .number ≡ 0) (n : startIn (runF
       rw (tasks-in, start-done _ _ _ _ n)
       (upTo-ext many _ _ (λ k l. ap (callAt (endsIn file) _) (omega arith)))
 
+  -- and the call after so many of them is that of the tick of this number
+  call-in : (many : ℕ) → callAt (endsIn file) (first .tasks .count) (first .done .0 + many) ≡ callAt (endsIn file) (file .tasks .count) many
+  call-in many = rw (tasks-in, start-done _ _ _ _ n) (ap (callAt (endsIn file) _) (omega arith))
+
   -- a play that is the run of the calls from the fresh state on is the file's run
-  run-of : (p : Play) → RunFrom (endsIn file) first p → IsTheRun file p
+  run-of : (p : Play) → RunFrom (endsIn file) (file .ticks) first p → IsTheRun file p
   unfolding started tableIn
-  run-of p run = record { state = run .state ∙ ap (after first) (calls-in (length (p .ticks))); ticks = run .ticks ∙ ap (λ cs. map shown (steps first cs)) (calls-in (length (p .ticks))) }
+  run-of p run =
+      record {
+        state = run .state ∙ ap (after first) (calls-in (length (p .ticks)));
+        ticks = run .ticks ∙ ap (λ cs. map shown (steps first cs)) (calls-in (length (p .ticks)));
+        ends = ⊎-elim inl (λ q. inr (q .0, (omega (arith, q .1 .0), ap (λ c. ticked (p .state) c .number) (sym (call-in (length (p .ticks)))) ∙ q .1 .1))) (run .ending);
+      }
 
   -- its play is such a run
   pub play-is-run : IsTheRun file (playOf text)

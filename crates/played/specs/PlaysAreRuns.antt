@@ -1,7 +1,8 @@
 -- What the bench plays is a run as `promises` speaks of it: start, and a call of tick for each tick that it shows. So each promise about runs is one about the bench.
-use Prim.Native.Nat.{ℕ, _-_, _*_}
+use Prim.Native.Nat.{ℕ, _-_, _*_, _<_}
 use mathlib.Core.Path.{_≡_}
 use mathlib.Core.List.{List, map}
+use mathlib.Core.Logic.{_⊎_}
 use lib.ListN.{length, take, replicate}
 use Rattle.rules.specs.Words.{upTo, total}
 use Rattle.rules.specs.Calls.{energyOf}
@@ -9,7 +10,7 @@ use Rattle.runfile.specs.declared.RunFile.{RunFile}
 use Rattle.runfile.specs.RunFile.{runFileOf}
 use Rattle.player.specs.Plays.{End, Tick, Play, endsIn, reportOf, playOf}
 use Rattle.played.specs.Promised.{grantedIn}
-use Rattle.promises.specs.Runs.{Table, Call, Step, started, after, steps, granted}
+use Rattle.promises.specs.Runs.{Table, Call, Step, started, ticked, after, steps, granted}
 use Rattle.promises.specs.Counts.{voltsBeside}
 
 -- the table of a run file: its task lines and its speed lines
@@ -38,6 +39,9 @@ shown x = record { speed = x .speed; grants = x .grants; idle = x .speed - grant
 pub record IsTheRun (f : RunFile) (p : Play) : Type 0 where
   pub state : p .state ≡ after (started (tableIn f) .state) (callsIn f (length (p .ticks)))
   pub ticks : p .ticks ≡ map shown (steps (started (tableIn f) .state) (callsIn f (length (p .ticks))))
+  -- not refused, it shows all of the run line's ticks; else it shows fewer, and the call of the next one is refused with 13
+  pub ends : ((p .number ≡ 0) × (length (p .ticks) ≡ f .ticks))
+      ⊎ ((p .number ≡ 13) × ((length (p .ticks) < f .ticks) × (ticked (p .state) (callAt (endsIn f) (f .tasks .count) (length (p .ticks))) .number ≡ 13)))
 
 -- so is that of every run file whose table start takes
 unfoldable pub EveryPlayIsARun : Type 0

@@ -35,7 +35,7 @@ EachTick P [] = Unit {0}
 EachTick P (x ∷ xs) = P x × EachTick P xs
 
 -- A run of so many ticks from a sound state on: it ends in a sound state of the same table, each tick shown is right, adds 1 to t and is counted,
--- and all of the ticks are shown unless one is refused, which only an entry that breaks rule 4 brings about (number 13).
+-- and all of the ticks are shown unless one is refused, and then with 13.
 pub record PlaysOn (s : State) (left : ℕ) (p : Play) : Type 0 where
   pub is-sound : sound (p .state) ≡ true
   pub is-shaped : Shaped (p .state)

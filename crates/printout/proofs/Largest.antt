@@ -2,7 +2,7 @@
 use mathlib.Core.Path.{_≡_, refl}
 use mathlib.Core.Bool.{Bool, true, false}
 use mathlib.Core.List.{List, [], _∷_, _++_}
-use Prim.Native.Nat.{ℕ, suc, zero-le, _+_, _*_, _^_, _≤_, _<_}
+use Prim.Native.Nat.{ℕ, suc, zero-le, _+_, _*_, _≤_, _<_}
 use native.Mathlib.Omega.{arith}
 use lib.Dec.{eqb}
 use lib.ListN.{length, length-append}
@@ -11,12 +11,11 @@ use Rattle.decimal.specs.Decimal.{decimalOf}
 use Rattle.decimal.proofs.Written.{narrow}
 use Rattle.player.specs.Plays.{Tick, Play, playOf}
 use Rattle.player.specs.Rows.{rowOf}
-use Rattle.played.specs.Promised.{TickRight, EachTick, PlayRight}
+use Rattle.played.specs.Promised.{TickRight, EachTick}
 use Rattle.played.proofs.TextLaws.{text-right}
 use Rattle.printout.specs.Print.{totalWord, refusedWord, fieldOf, fieldsOf, lineOf, tickLines, totalsOf, lastLine, textOf, printOf}
-use Rattle.printout.specs.Largest.{mostPrinted, NeverLonger}
+use Rattle.printout.specs.Largest.{NeverLonger}
 use Rattle.printout.proofs.Fields.{field-length, fields-few, line-length}
-use Rattle.printout.proofs.TickLines.{row-long}
 
 -- a number below 10,000,000 has a field of at most 8 bytes
 field-narrow : (v : ℕ) → v < 10_000_000 → length (fieldOf v) ≤ 8

@@ -1,8 +1,8 @@
 -- The last line: the counts summed, and its numbers and its words. A sound state's counts fit 64 bits; the words by their letters.
-use mathlib.Core.Path.{_≡_, refl, ap, _∙_}
+use mathlib.Core.Path.{_≡_, refl, ap}
 use mathlib.Core.Bool.{Bool, true, false}
 use mathlib.Core.List.{List, [], _∷_}
-use Prim.Native.Nat.{ℕ, _+_, _-_, _*_, _^_, _≤_, _<_}
+use Prim.Native.Nat.{ℕ, _+_, _-_, _^_, _≤_, _<_}
 use native.Mathlib.Nat.{mul-le-mul, sub-zero}
 use native.Mathlib.Omega.{arith}
 use borrow.Author.Tests.{eq-eqb, ne-eqb}
@@ -13,8 +13,6 @@ use Rattle.units.specs.declared.Cycles.{Cycles}
 use Rattle.units.specs.Units.{cycles}
 use Rattle.rules.specs.declared.State.{State}
 use Rattle.rules.specs.Words.{total}
-use Rattle.rules.specs.Limits.{mostSpeed, mostTicks}
-use Rattle.rules.specs.State.{speedsOf, topOf}
 use Rattle.rules.specs.Numbers.{sound}
 use Rattle.rules.proofs.Lists.{rest-cons}
 use Rattle.rules.proofs.Soundness.{Sound, sound-facts}
@@ -22,7 +20,7 @@ use Rattle.rules.proofs.Loads.{top-limit}
 use Rattle.words.specs.Words.{putIn, placeAfter}
 use Rattle.words.proofs.Stores.{put-fits}
 use Rattle.printout.specs.Print.{totalWord, refusedWord, crLf, fieldsOf, totalsOf}
-use Rattle.printout.specs.Parts.{wordOf, lastOf, lastFor}
+use Rattle.printout.specs.Parts.{wordOf, lastText, lastOf}
 use Rattle.printout.specs.declared.lasts.Last.{Last}
 use Rattle.printout.proofs.Fields.{line-length, put-line}
 
@@ -71,41 +69,41 @@ module _ (out : List ℕ) (at : ℕ) (refused : Bool) where
 
 module _ (last : Last) where
   -- the last line's bytes, by its word
-  pub last-length-is : length (lastOf last) ≡ length (wordOf (last .refused)) + length (fieldsOf (take (last .count - 0) (last .values))) + 2
-  unfolding lastOf
+  pub last-length-is : length (lastText last) ≡ length (wordOf (last .refused)) + length (fieldsOf (take (last .count - 0) (last .values))) + 2
+  unfolding lastText
   last-length-is = rw (sub-zero (last .count)) (line-length (wordOf (last .refused)) (take (last .count) (last .values)))
 
   -- 9 bytes beside the fields of a refusal
-  pub refused-length : last .refused ≡ true → length (lastOf last) ≡ length (fieldsOf (take (last .count - 0) (last .values))) + 9
+  pub refused-length : last .refused ≡ true → length (lastText last) ≡ length (fieldsOf (take (last .count - 0) (last .values))) + 9
   unfolding refusedWord
   refused-length e = omega (arith, last-length-is, ap length (word-refused (last .refused) e))
 
   -- 7 bytes beside the fields of a total
-  pub total-length : last .refused ≡ false → length (lastOf last) ≡ length (fieldsOf (take (last .count - 0) (last .values))) + 7
+  pub total-length : last .refused ≡ false → length (lastText last) ≡ length (fieldsOf (take (last .count - 0) (last .values))) + 7
   unfolding totalWord
   total-length e = omega (arith, last-length-is, ap length (word-total (last .refused) e))
 
   -- the last line put: its word, its fields, and its end
-  pub put-last-line : (d : List ℕ) (at : ℕ) → sets (sets (sets d at (wordOf (last .refused))) (at + length (wordOf (last .refused))) (fieldsOf (take (last .count - 0) (last .values)))) (at + length (wordOf (last .refused)) + length (fieldsOf (take (last .count - 0) (last .values)))) crLf ≡ sets d at (lastOf last)
-  unfolding lastOf
+  pub put-last-line : (d : List ℕ) (at : ℕ) → sets (sets (sets d at (wordOf (last .refused))) (at + length (wordOf (last .refused))) (fieldsOf (take (last .count - 0) (last .values)))) (at + length (wordOf (last .refused)) + length (fieldsOf (take (last .count - 0) (last .values)))) crLf ≡ sets d at (lastText last)
+  unfolding lastText
   put-last-line d at = rw (sub-zero (last .count)) (put-line (wordOf (last .refused)) (take (last .count) (last .values)) d at)
 
 module _ (number : ℕ) (s : State) where
   -- the numbers of a refusal
-  pub last-refused : (number ≡ 0 → ⊥) → record { refused = true; count = 1; values = number ∷ 0 ∷ 0 ∷ 0 ∷ 0 ∷ [] } ≡ lastFor number s
-  unfolding lastFor
+  pub last-refused : (number ≡ 0 → ⊥) → record { refused = true; count = 1; values = number ∷ 0 ∷ 0 ∷ 0 ∷ 0 ∷ [] } ≡ lastOf number s
+  unfolding lastOf
   last-refused h = rw (ne-eqb number 0 h)
 
   -- the numbers of a total
-  pub last-total : number ≡ 0 → record { refused = false; count = 5; values = totalsOf s } ≡ lastFor number s
-  unfolding lastFor
+  pub last-total : number ≡ 0 → record { refused = false; count = 5; values = totalsOf s } ≡ lastOf number s
+  unfolding lastOf
   last-total h = rw (eq-eqb number 0 h)
 
   -- there are five numbers at most
-  pub last-count : lastFor number s .count ≤ 5
-  unfolding lastFor
+  pub last-count : lastOf number s .count ≤ 5
+  unfolding lastOf
   last-count = go (eqb number 0) refl
     where
-      go : (t : Bool) → eqb number 0 ≡ t → lastFor number s .count ≤ 5
+      go : (t : Bool) → eqb number 0 ≡ t → lastOf number s .count ≤ 5
       go true e = rw e (omega arith)
       go false e = rw e (omega arith)

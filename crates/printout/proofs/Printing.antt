@@ -1,21 +1,21 @@
 -- What print asks of a play: its rows in a list of 180,000 places, which are always enough, can be rendered, and so they are the printout of the text. From the laws about plays and that no printout is longer than 1,500,200 bytes.
-use mathlib.Core.Path.{_≡_, refl, sym, ap, _∙_}
+use mathlib.Core.Path.{_≡_, ap, _∙_}
 use mathlib.Core.Bool.{true}
 use mathlib.Core.List.{List, _++_}
-use Prim.Native.Nat.{ℕ, _+_, _*_, _≤_}
+use Prim.Native.Nat.{ℕ, _+_, _≤_}
 use native.Mathlib.Nat.{zero-add, mul-le-mul}
 use native.Mathlib.Omega.{arith}
 use lib.ListN.{length, drop}
-use lib.Seq.{sets, sets-eq, length-sets}
+use lib.Seq.{sets-eq, length-sets}
 use Rattle.runfile.specs.RunFile.{runFileOf}
 use Rattle.player.specs.declared.Played.{Played}
 use Rattle.player.specs.Plays.{Play, playOf}
 use Rattle.player.specs.Rows.{rowsOf, enough, playedOf, rowsIn}
-use Rattle.played.specs.Promised.{PlayRight, mostPlaces}
+use Rattle.played.specs.Promised.{mostPlaces}
 use Rattle.played.proofs.TextLaws.{text-right, text-enough}
 use Rattle.printout.specs.Print.{printOf}
 use Rattle.printout.specs.Largest.{NeverLonger}
-use Rattle.printout.specs.Parts.{Summed, lastFor, linesOf, rendered, Renderable}
+use Rattle.printout.specs.Parts.{Summed, rendered, Renderable}
 use Rattle.printout.proofs.LastLine.{last-count}
 use Rattle.printout.proofs.TickLines.{rendered-is}
 use Rattle.printout.proofs.Largest.{never-longer}

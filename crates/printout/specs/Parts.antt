@@ -21,12 +21,12 @@ rowLines width (suc ticks) t rows = lineOf (decimalOf t) (take width rows) ++ ro
 unfoldable pub wordOf : Bool → List ℕ
 wordOf refused = cond refused refusedWord totalWord
 
-unfoldable pub lastOf : Last → List ℕ
-lastOf l = lineOf (wordOf (l .refused)) (take (l .count) (l .values))
+unfoldable pub lastText : Last → List ℕ
+lastText l = lineOf (wordOf (l .refused)) (take (l .count) (l .values))
 
 -- the numbers of the last line of a run that ended so
-unfoldable pub lastFor : ℕ → State → Last
-lastFor number s =
+unfoldable pub lastOf : ℕ → State → Last
+lastOf number s =
     cond (eqb number 0)
     (record { refused = false; count = 5; values = totalsOf s })
     (record { refused = true; count = 1; values = number ∷ 0 ∷ 0 ∷ 0 ∷ 0 ∷ [] })
@@ -37,7 +37,7 @@ Summed number s = number ≡ 0 → sound s ≡ true
 
 -- all lines of a run: those of its ticks, and the last
 unfoldable pub linesOf : ℕ → ℕ → Last → List ℕ → List ℕ
-linesOf width ticks last rows = rowLines width ticks 0 rows ++ lastOf last
+linesOf width ticks last rows = rowLines width ticks 0 rows ++ lastText last
 
 -- rows that can be written: at most 10,000 of at most 18 numbers, all of them there, and a text that is no longer than any run's
 pub record Writable (width ticks : ℕ) (last : Last) (rows : List ℕ) : Type 0 where
@@ -49,8 +49,8 @@ pub record Writable (width ticks : ℕ) (last : Last) (rows : List ℕ) : Type 0
 
 -- a run that ended so, as text, and when it can be written
 unfoldable pub rendered : ℕ → State → List ℕ → List ℕ
-rendered number s rows = linesOf (s .tasks .count + 2) (s .done .0) (lastFor number s) rows
+rendered number s rows = linesOf (s .tasks .count + 2) (s .done .0) (lastOf number s) rows
 
 pub record Renderable (number : ℕ) (s : State) (rows : List ℕ) : Type 0 where
   pub summed : Summed number s
-  pub all : Writable (s .tasks .count + 2) (s .done .0) (lastFor number s) rows
+  pub all : Writable (s .tasks .count + 2) (s .done .0) (lastOf number s) rows

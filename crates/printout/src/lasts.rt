@@ -5,7 +5,7 @@ ghost use lib.ListN.{length};
 ghost use lib.Seq.{sets};
 ghost use Rattle.units.specs.declared.Cycles.{Cycles};
 ghost use Rattle.rules.specs.Words.{total};
-ghost use Rattle.printout.specs.Parts.{lastOf, wordOf, Summed, lastFor};
+ghost use Rattle.printout.specs.Parts.{lastText, wordOf, Summed, lastOf};
 use rules::State;
 use rules::Tally;
 
@@ -19,7 +19,7 @@ pub(crate) struct Last {
 // The last line of a run that ended so: total, cycles granted, idle, energy, late, cut; or refused and the number.
 pub(crate) fn last_of(number: u64, state: State) -> Last
     requires { ⌜ Summed number state ⌝ }
-    ensures { λ r. ⌜ r ≡ lastFor number state ⌝ }
+    ensures { λ r. ⌜ r ≡ lastOf number state ⌝ }
 {
     if number != 0 {
         return Last {
@@ -57,7 +57,7 @@ pub(crate) fn granted(tally: Tally) -> u64
 // How many bytes the last line takes.
 pub(crate) fn last_length(last: Last) -> usize
     requires { ⌜ last .count ≤ 5 ⌝ }
-    ensures { λ r. ⌜ r ≡ length (lastOf last) ⌝ }
+    ensures { λ r. ⌜ r ≡ length (lastText last) ⌝ }
 {
     let values = last.values;
     let n = last.count;
@@ -70,9 +70,9 @@ pub(crate) fn last_length(last: Last) -> usize
 
 // Puts the last line from a place on, and tells the place after it.
 pub(crate) fn put_last(out: &mut [u8], at: usize, last: Last) -> usize
-    requires { ⌜ (last .count ≤ 5) × (at + length (lastOf last) ≤ length (now out)) ⌝ }
-    ensures { λ r. ⌜ r ≡ at + length (lastOf last) ⌝ }
-    ensures { λ _. ⌜ now (out .exit) ≡ sets (now (out .entry)) at (lastOf last) ⌝ }
+    requires { ⌜ (last .count ≤ 5) × (at + length (lastText last) ≤ length (now out)) ⌝ }
+    ensures { λ r. ⌜ r ≡ at + length (lastText last) ⌝ }
+    ensures { λ _. ⌜ now (out .exit) ≡ sets (now (out .entry)) at (lastText last) ⌝ }
 {
     let values = last.values;
     let n = last.count;

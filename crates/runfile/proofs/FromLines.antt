@@ -17,7 +17,7 @@ use Rattle.lines.proofs.Spelled.{after-front, word-here, two-read, three-read}
 use Rattle.runfile.specs.declared.Pairs.{Pairs}
 use Rattle.runfile.specs.declared.Ends.{Ends}
 use Rattle.runfile.specs.Groups.{morePairs, moreEnds, pairsRead, pairsFrom, endsRead, endGood, endsFrom}
-use Rattle.runfile.specs.Spelled.{TwoLine, ThreeLine, twoLines, endLines, pairsOf, endsOf, twosFit, threesFit, endsRise, ticksOf}
+use Rattle.runfile.specs.Spelled.{TwoLine, ThreeLine, twoLines, endLines, pairsLaid, endsLaid, twosFit, threesFit, endsRise, ticksOf}
 use Rattle.runfile.proofs.Splits.{both}
 use Rattle.runfile.proofs.Pairing.{group-ends, one-line}
 use Rattle.runfile.proofs.Ending.{lines-end, one-end}
@@ -29,8 +29,8 @@ fit-below n e = ltb-true n (2 ^ 64) e
 
 -- a group of two numbers a line that is spelled is read, where what follows begins with another word
 pub pairs-read : (word text rest : List ℕ) → begins rest word ≡ false → (ls : List TwoLine) (left at : ℕ) (p : Pairs) → twosFit ls ≡ true → length ls ≤ left → drop at text ≡ twoLines word ls rest
-    → (n : ℕ) × (pairsFrom word text left at p ≡ pairsRead (pairsOf p ls) n) × (drop n text ≡ rest)
-unfolding standsAt twoLines twosFit pairsOf
+    → (n : ℕ) × (pairsFrom word text left at p ≡ pairsRead (pairsLaid p ls) n) × (drop n text ≡ rest)
+unfolding standsAt twoLines twosFit pairsLaid
 pairs-read word text rest other [] left at p fit few e = (at, group-ends word text at p left (ap (λ (l : List ℕ). begins l word) e ∙ other), e)
 pairs-read word text rest other (l ∷ ls) zero at p fit few e = absurd (not-suc-le-zero few)
 pairs-read word text rest other (l ∷ ls) (suc left) at p fit few e =
@@ -44,8 +44,8 @@ pairs-read word text rest other (l ∷ ls) (suc left) at p fit few e =
 -- end lines that are spelled and rise are read
 pub ends-read : (text rest : List ℕ) (known : ℕ) → begins rest endWord ≡ false → (ls : List ThreeLine) (left at earlier former : ℕ) (p : Ends)
     → threesFit ls ≡ true → endsRise known earlier former ls ≡ true → length ls ≤ left → drop at text ≡ endLines ls rest
-    → (n : ℕ) × (endsFrom text known left at earlier former p ≡ endsRead (endsOf p ls) n) × (drop n text ≡ rest)
-unfolding standsAt endLines threesFit endsRise endsOf endWord
+    → (n : ℕ) × (endsFrom text known left at earlier former p ≡ endsRead (endsLaid p ls) n) × (drop n text ≡ rest)
+unfolding standsAt endLines threesFit endsRise endsLaid endWord
 ends-read text rest known other [] left at earlier former p fit rise few e =
     (at, lines-end text known at earlier former p left (ap (λ (l : List ℕ). begins l endWord) e ∙ other), e)
 ends-read text rest known other (l ∷ ls) zero at earlier former p fit rise few e = absurd (not-suc-le-zero few)
@@ -61,14 +61,14 @@ ends-read text rest known other (l ∷ ls) (suc left) at earlier former p fit ri
     (more .0, one-end text known at earlier former p (word-here text at endWord after e) refl (line .1) left refl (good .0) ∙ more .1, more .2)
 
 -- how many lines were laid
-pub pairs-count : (ls : List TwoLine) (p : Pairs) → pairsOf p ls .count ≡ p .count + length ls
-unfolding pairsOf morePairs
+pub pairs-count : (ls : List TwoLine) (p : Pairs) → pairsLaid p ls .count ≡ p .count + length ls
+unfolding pairsLaid morePairs
 pairs-count [] p = omega arith
 pairs-count (l ∷ ls) p = pairs-count ls (morePairs p (l .first) (l .second)) ∙ omega arith
 
 -- the ticks of end lines laid into arrays that have room for them
-pub ends-ticks : (ls : List ThreeLine) (e : Ends) → e .count + length ls ≤ length (e .ticks) → take (endsOf e ls .count) (endsOf e ls .ticks) ≡ take (e .count) (e .ticks) ++ ticksOf ls
-unfolding endsOf ticksOf moreEnds
+pub ends-ticks : (ls : List ThreeLine) (e : Ends) → e .count + length ls ≤ length (e .ticks) → take (endsLaid e ls .count) (endsLaid e ls .ticks) ≡ take (e .count) (e .ticks) ++ ticksOf ls
+unfolding endsLaid ticksOf moreEnds
 ends-ticks [] e h = sym (append-nil (take (e .count) (e .ticks)))
 ends-ticks (l ∷ ls) e h =
     let next : take (e .count + 1) (set (e .ticks) (e .count) (l .tick)) ≡ take (e .count) (e .ticks) ++ (l .tick ∷ []) = rw (add-one (e .count)) (take-suc-set (e .ticks) (e .count) (l .tick) (omega arith)) in

@@ -22,7 +22,7 @@ use Rattle.runfile.specs.declared.groups.EndsRead.{EndsRead}
 use Rattle.runfile.specs.declared.RunFile.{RunFile}
 use Rattle.runfile.specs.Groups.{mostTaskLines, mostSpeedLines, mostEndLines, noPairs, noEnds, pairsRead, pairsFrom, endsRead}
 use Rattle.runfile.specs.RunFile.{mostBytes, mostRunTicks, noRunFile, all, closed, afterEnds, afterSpeeds, afterTasks, runFileOf}
-use Rattle.runfile.specs.Spelled.{TwoLine, ThreeLine, twoLines, endLines, spelling, pairsOf, endsOf, fileOf, endsRise, ticksOf, Spelled}
+use Rattle.runfile.specs.Spelled.{TwoLine, ThreeLine, twoLines, endLines, spelling, pairsLaid, endsLaid, fileOf, endsRise, ticksOf, Spelled}
 use Rattle.runfile.proofs.Splits.{both}
 use Rattle.runfile.proofs.Stages.{tasks-first, speeds-next, ends-next, run-last, all-closed}
 use Rattle.runfile.proofs.FromLines.{pairs-read, ends-read, pairs-count, ends-ticks}
@@ -75,11 +75,11 @@ no-tick : take (noEnds .count) (noEnds .ticks) ≡ []
 no-tick = ap (λ (n : ℕ). take n (noEnds .ticks)) (no-end .0)
 
 -- end lines laid from the first one on have the ticks of the lines
-all-ticks : (ls : List ThreeLine) → length ls ≤ 1000 → take (endsOf noEnds ls .count) (endsOf noEnds ls .ticks) ≡ ticksOf ls
+all-ticks : (ls : List ThreeLine) → length ls ≤ 1000 → take (endsLaid noEnds ls .count) (endsLaid noEnds ls .ticks) ≡ ticksOf ls
 all-ticks ls h = ends-ticks ls noEnds (omega (arith, no-end .0, no-end .1)) ∙ ap (λ (l : List ℕ). l ++ ticksOf ls) no-tick
 
 -- as many task lines were laid as there are
-all-laid : (ls : List TwoLine) → pairsOf noPairs ls .count ≡ length ls
+all-laid : (ls : List TwoLine) → pairsLaid noPairs ls .count ≡ length ls
 all-laid ls = omega (arith, pairs-count ls noPairs, no-line)
 
 module _ (text : List ℕ) (f : RunFile) (s : Spelled text f) where
@@ -91,9 +91,9 @@ module _ (text : List ℕ) (f : RunFile) (s : Spelled text f) where
       let others = run-other (s .ticks) (s .last) in
       let afterTwo = endLines (s .ends) run in
       let afterOne = twoLines speedWord (s .speeds) afterTwo in
-      let p = pairsOf noPairs (s .tasks) in
-      let q = pairsOf noPairs (s .speeds) in
-      let e = endsOf noEnds (s .ends) in
+      let p = pairsLaid noPairs (s .tasks) in
+      let q = pairsLaid noPairs (s .speeds) in
+      let e = endsLaid noEnds (s .ends) in
       let notSpeed : begins afterTwo speedWord ≡ false = other-ends speedWord (s .ends) run (λ l. end-other l .1) (others .1) in
       let notTask : begins afterOne taskWord ≡ false = other-twos taskWord speedWord (s .speeds) afterTwo speed-other (other-ends taskWord (s .ends) run (λ l. end-other l .0) (others .0)) in
       let one = pairs-read taskWord text afterOne notTask (s .tasks) 16 0 noPairs (s .tasksFit) (s .fewTasks) (s .bytes) in

@@ -21,7 +21,7 @@ use Rattle.runfile.specs.declared.Ends.{Ends}
 use Rattle.runfile.specs.declared.groups.PairsRead.{PairsRead}
 use Rattle.runfile.specs.declared.groups.EndsRead.{EndsRead}
 use Rattle.runfile.specs.Groups.{morePairs, moreEnds, pairsRead, wrongPairs, withPair, pairsFrom, endsRead, wrongEnds, endGood, withEnd, endsFrom}
-use Rattle.runfile.specs.Spelled.{TwoLine, ThreeLine, twoLines, endLines, pairsOf, endsOf, twosFit, threesFit, endsRise}
+use Rattle.runfile.specs.Spelled.{TwoLine, ThreeLine, twoLines, endLines, pairsLaid, endsLaid, twosFit, threesFit, endsRise}
 
 -- a number below 2^64 fits
 fit-true : (n : ℕ) → n < 2 ^ 64 → fits64 n ≡ true
@@ -59,7 +59,7 @@ pub record TakenTwos (word text : List ℕ) (left at : ℕ) (p q : Pairs) (next 
   pub lines : List TwoLine
   pub few : length lines ≤ left
   pub fit : twosFit lines ≡ true
-  pub laid : q ≡ pairsOf p lines
+  pub laid : q ≡ pairsLaid p lines
   pub front : drop at text ≡ twoLines word lines (drop next text)
 
 -- a group that was read, and was not the end of the text, was spelled
@@ -85,13 +85,13 @@ module _ (word text : List ℕ) (left at : ℕ) (p : Pairs) where
 
   -- no line taken
   twos-none : BackTwos word text left at p (pairsRead p at)
-  unfolding pairsRead twosFit pairsOf twoLines
+  unfolding pairsRead twosFit pairsLaid twoLines
   twos-none e inside = record { lines = []; few = zero-le; fit = refl; laid = refl; front = refl }
 
 -- one line taken, and those after it
 twos-more : (word text : List ℕ) (left at : ℕ) (p q : Pairs) (next a b n : ℕ) → standsAt text at word ≡ true → pairAt text (at + length word) ≡ Pair a b n → next < length text
     → TakenTwos word text left n (morePairs p a b) q next → TakenTwos word text (suc left) at p q next
-unfolding twosFit pairsOf twoLines
+unfolding twosFit pairsLaid twoLines
 twos-more word text left at p q next a b n stands e inside t =
     let some : 1 ≤ length (drop next text) = omega (arith, length-drop next text) in
     let within : n < length text = left-within text n (twoLines word (t .lines) (drop next text)) (t .front) (twos-some word (t .lines) (drop next text) some) in
@@ -120,7 +120,7 @@ pub record TakenThrees (text : List ℕ) (known left at earlier former : ℕ) (p
   pub few : length lines ≤ left
   pub fit : threesFit lines ≡ true
   pub rise : endsRise known earlier former lines ≡ true
-  pub laid : q ≡ endsOf p lines
+  pub laid : q ≡ endsLaid p lines
   pub front : drop at text ≡ endLines lines (drop next text)
 
 -- end lines that were read, and were not the end of the text, were spelled
@@ -148,13 +148,13 @@ module _ (text : List ℕ) (known left at earlier former : ℕ) (p : Ends) where
 
   -- no line taken
   threes-none : BackThrees text known left at earlier former p (endsRead p at)
-  unfolding endsRead threesFit endsRise endsOf endLines
+  unfolding endsRead threesFit endsRise endsLaid endLines
   threes-none e inside = record { lines = []; few = zero-le; fit = refl; rise = refl; laid = refl; front = refl }
 
 -- one line taken, and those after it
 threes-more : (text : List ℕ) (known left at earlier former : ℕ) (p q : Ends) (next a b c n : ℕ) → standsAt text at endWord ≡ true → endAt text (at + 4) ≡ End a b c n
     → endGood known earlier former a b c ≡ true → next < length text → TakenThrees text known left n a b (moreEnds p a b c) q next → TakenThrees text known (suc left) at earlier former p q next
-unfolding threesFit endsRise endsOf endLines endWord
+unfolding threesFit endsRise endsLaid endLines endWord
 threes-more text known left at earlier former p q next a b c n stands e good inside t =
     let some : 1 ≤ length (drop next text) = omega (arith, length-drop next text) in
     let within : n < length text = left-within text n (endLines (t .lines) (drop next text)) (t .front) (ends-some (t .lines) (drop next text) some) in

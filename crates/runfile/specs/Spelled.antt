@@ -40,21 +40,21 @@ unfoldable pub spelling : List TwoLine → List TwoLine → List ThreeLine → �
 spelling tasks speeds ends ticks last = twoLines taskWord tasks (twoLines speedWord speeds (endLines ends (runLine ticks last)))
 
 -- the lines' numbers laid into arrays, after those that are there
-unfoldable pub pairsOf : Pairs → List TwoLine → Pairs
-pairsOf p [] = p
-pairsOf p (l ∷ ls) = pairsOf (morePairs p (l .first) (l .second)) ls
+unfoldable pub pairsLaid : Pairs → List TwoLine → Pairs
+pairsLaid p [] = p
+pairsLaid p (l ∷ ls) = pairsLaid (morePairs p (l .first) (l .second)) ls
 
-unfoldable pub endsOf : Ends → List ThreeLine → Ends
-endsOf e [] = e
-endsOf e (l ∷ ls) = endsOf (moreEnds e (l .tick) (l .task) (l .cycles)) ls
+unfoldable pub endsLaid : Ends → List ThreeLine → Ends
+endsLaid e [] = e
+endsLaid e (l ∷ ls) = endsLaid (moreEnds e (l .tick) (l .task) (l .cycles)) ls
 
 unfoldable pub fileOf : List TwoLine → List TwoLine → List ThreeLine → ℕ → RunFile
 fileOf tasks speeds ends ticks =
     record {
       number = 0;
-      tasks = pairsOf noPairs tasks;
-      speeds = pairsOf noPairs speeds;
-      ends = endsOf noEnds ends;
+      tasks = pairsLaid noPairs tasks;
+      speeds = pairsLaid noPairs speeds;
+      ends = endsLaid noEnds ends;
       ticks = ticks;
     }
 

@@ -6,59 +6,42 @@ use Rattle.bench.specs.declared.Input.{Input}
 use Rattle.bench.specs.Within.{Within}
 use Rattle.bench.proofs.main.Statement.{statement}
 use Rattle.bench.proofs.main.Tie as tie
-use Rattle.bench.proofs.main.Reads as reads
-use Rattle.bench.proofs.main.Lts as lts
-use Rattle.bench.proofs.print_run.Reads as print-run-reads
-use Rattle.bench.proofs.read_all.Reads as read-all-reads
-use Rattle.io.proofs.write_all.Reads as write-all-reads
 
--- src/main.rt:18:36
 slice-aggregate-read-all : tie.Need-slice-aggregate-read-all
 slice-aggregate-read-all c = search needs
 
--- src/main.rt:18:27
 read-all-requires : tie.Need-read-all-requires
 read-all-requires c κs = search needs
 
--- src/main.rt:18:22
 enum-known-n : tie.Need-enum-known-n
 enum-known-n c = search needs
 
--- src/main.rt:19:38
 enum-told : tie.Need-enum-told
 enum-told c = search needs
 
--- src/main.rt:19:38
 slice-aggregate-write-all : tie.Need-slice-aggregate-write-all
 slice-aggregate-write-all c = search needs
 
--- src/main.rt:19:9
 write-all-requires : tie.Need-write-all-requires
 write-all-requires c κs = search needs
 
--- src/main.rt:20:9
 returns : tie.Need-returns
 returns c = search needs
 
--- src/main.rt:23:15
 sub-print-run : tie.Need-sub-print-run
 sub-print-run c = search needs
 
--- src/main.rt:23:15
 part-print-run-start : tie.Need-part-print-run-start
 part-print-run-start c = search needs
 
--- src/main.rt:23:15
 part-print-run-end : tie.Need-part-print-run-end
 part-print-run-end c =
     let r = c .before .before .before .before .before .read-all in
     subst (λ (i : Input). Within i (length (r .last .0))) (c .before .before .n .given .1) (r .ensures)
 
--- src/main.rt:23:5
 print-run-requires : tie.Need-print-run-requires
 print-run-requires c κs = search needs
 
--- src/main.rt:16:1
 returns-2 : tie.Need-returns-2
 returns-2 c = search needs
 

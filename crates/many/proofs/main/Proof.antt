@@ -1,11 +1,8 @@
--- At most 100,000 run files.
+-- The count of run files cannot pass 100,000: by the bound of the loop.
 use borrow.Author.Needs.{needs}
 use Prim.Native.Nat.{_≤_, _-_}
 use Rattle.many.proofs.main.Statement.{statement}
 use Rattle.many.proofs.main.Tie as tie
-use Rattle.many.proofs.main.Reads as reads
-use Rattle.many.proofs.main.Lts as lts
-use Rattle.many.proofs.one.Reads as one-reads
 
 abbrev Inv-loop : tie.InvT-loop
 Inv-loop text₀ out₀ i₀ text out i = i ≤ 100000
@@ -13,31 +10,24 @@ Inv-loop text₀ out₀ i₀ text out i = i ≤ 100000
 abbrev μ-loop : tie.MeasureT-loop
 μ-loop text₀ out₀ i₀ text out i = 100000 - i
 
--- src/main.rt:12:5
 loop-holds : tie.Need-loop-holds Inv-loop μ-loop
 loop-holds c = search needs
 
--- src/main.rt:13:13
 one-requires : tie.Need-one-requires Inv-loop μ-loop
 one-requires c κs = search needs
 
--- src/main.rt:14:13
 returns : tie.Need-returns Inv-loop μ-loop
 returns c = search needs
 
--- src/main.rt:16:9
 add-i : tie.Need-add-i Inv-loop μ-loop
 add-i c = search needs
 
--- src/main.rt:12:5
 loop-less : tie.Need-loop-less Inv-loop μ-loop
 loop-less c = search needs
 
--- src/main.rt:12:5
 loop-again : tie.Need-loop-again Inv-loop μ-loop
 loop-again c = search needs
 
--- src/main.rt:8:1
 returns-2 : tie.Need-returns-2 Inv-loop μ-loop
 returns-2 c = search needs
 

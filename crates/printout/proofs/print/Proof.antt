@@ -8,10 +8,6 @@ use Rattle.printout.specs.Parts.{rendered, Renderable}
 use Rattle.printout.proofs.Printing.{ready}
 use Rattle.printout.proofs.print.Statement.{statement}
 use Rattle.printout.proofs.print.Tie as tie
-use Rattle.printout.proofs.print.Reads as reads
-use Rattle.printout.proofs.print.Lts as lts
-use Rattle.player.proofs.play.Reads as play-reads
-use Rattle.printout.proofs.whole.render.Reads as render-reads
 
 -- what was played can be rendered, and is the printout
 played : (c : tie.After-play) →

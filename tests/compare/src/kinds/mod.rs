@@ -50,7 +50,7 @@ pub struct Case {
     pub text: Text,
     /// What the bench must print, where that is kept.
     pub expected: Option<Vec<u8>>,
-    /// Kept under tests/runs, not generated.
+    /// Kept in a folder of run files, not generated.
     pub kept: bool,
 }
 

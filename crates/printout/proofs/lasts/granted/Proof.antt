@@ -1,15 +1,13 @@
 -- `granted` adds up count by count: the sum so far and the counts left are all of them.
 use borrow.Author.Needs.{needs}
-use mathlib.Core.Path.{_≡_, refl, sym, ap, _∙_}
-use Prim.Native.Nat.{_+_, _-_, _*_, _≤_, _<_}
+use mathlib.Core.Path.{_≡_}
+use Prim.Native.Nat.{_+_, _-_, _≤_}
 use native.Mathlib.Omega.{arith}
 use lib.ListN.{length, drop}
 use Rattle.rules.proofs.Lists.{length-mapped}
 use Rattle.printout.proofs.LastLine.{cyclesOf, first-count, no-count}
 use Rattle.printout.proofs.lasts.granted.Statement.{statement}
 use Rattle.printout.proofs.lasts.granted.Tie as tie
-use Rattle.printout.proofs.lasts.granted.Reads as reads
-use Rattle.printout.proofs.lasts.granted.Lts as lts
 
 abbrev Inv-loop : tie.InvT-loop
 Inv-loop counts sum₀ i₀ sum i = (i ≤ 8) × (sum + cyclesOf (drop i counts) ≡ cyclesOf counts)

@@ -1,6 +1,6 @@
 -- `last_length` is the length of the fields, of the word and of the line's end.
-use mathlib.Core.Path.{_≡_, refl, sym, ap, _∙_}
-use Prim.Native.Nat.{_+_, _-_, _*_, _≤_, _<_}
+use mathlib.Core.Path.{_≡_}
+use Prim.Native.Nat.{_-_}
 use native.Mathlib.Omega.{arith}
 use lib.ListN.{length, take, length-take}
 use Rattle.printout.proofs.Fields.{fields-few}
@@ -8,9 +8,6 @@ use Rattle.printout.proofs.LastLine.{refused-length, total-length}
 use borrow.Author.Needs.{needs}
 use Rattle.printout.proofs.lasts.last_length.Statement.{statement}
 use Rattle.printout.proofs.lasts.last_length.Tie as tie
-use Rattle.printout.proofs.lasts.last_length.Reads as reads
-use Rattle.printout.proofs.lasts.last_length.Lts as lts
-use Rattle.printout.proofs.rows.fields_length.Reads as fields-length-reads
 
 sub-fields-length : tie.Need-sub-fields-length
 sub-fields-length c = omega arith

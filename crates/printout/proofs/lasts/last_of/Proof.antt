@@ -1,20 +1,14 @@
 -- `last_of` sums the counts, which a sound state allows, and asks for the energy; a refusal has its number alone.
-use mathlib.Core.Path.{_≡_, refl, sym, ap, _∙_}
-use Prim.Native.Nat.{ℕ, _+_, _-_, _*_, _≤_, _<_}
-use native.Mathlib.Omega.{arith}
+use mathlib.Core.Path.{ap, _∙_}
+use Prim.Native.Nat.{ℕ}
 use mathlib.Core.Bool.{false}
 use mathlib.Core.List.{[], _∷_}
-use borrow.Author.Needs.{needs}
 use Rattle.printout.specs.Print.{totalsOf}
 use Rattle.printout.specs.Parts.{Summed}
 use Rattle.rules.specs.declared.Used.{Used}
 use Rattle.printout.proofs.LastLine.{cyclesOf, can-sum, last-refused, last-total}
 use Rattle.printout.proofs.lasts.last_of.Statement.{statement}
 use Rattle.printout.proofs.lasts.last_of.Tie as tie
-use Rattle.printout.proofs.lasts.last_of.Reads as reads
-use Rattle.printout.proofs.lasts.last_of.Lts as lts
-use Rattle.governor.proofs.energy.Reads as energy-reads
-use Rattle.printout.proofs.lasts.granted.Reads as granted-reads
 
 returns : tie.Need-returns
 returns c = last-refused (c .before .args .number) (c .before .args .state) (c .if1 .taken)

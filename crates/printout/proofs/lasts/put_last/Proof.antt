@@ -1,21 +1,13 @@
 -- `put_last` puts the word, the fields after it, and then the line's end.
-use mathlib.Core.Path.{_≡_, refl, sym, ap, _∙_}
-use Prim.Native.Nat.{_+_, _-_, _*_, _≤_, _<_}
+use mathlib.Core.Path.{_≡_, refl, _∙_}
 use native.Mathlib.Omega.{arith}
 use borrow.Author.Needs.{needs}
-use lib.ListN.{length, take}
-use lib.Seq.{sets, length-sets}
+use lib.ListN.{length}
 use Rattle.words.proofs.Stores.{put-fits}
-use Rattle.printout.specs.Print.{crLf, fieldsOf}
-use Rattle.printout.specs.Parts.{wordOf, lastOf}
+use Rattle.printout.specs.Print.{crLf}
 use Rattle.printout.proofs.LastLine.{last-length-is, put-last-line}
 use Rattle.printout.proofs.lasts.put_last.Statement.{statement}
 use Rattle.printout.proofs.lasts.put_last.Tie as tie
-use Rattle.printout.proofs.lasts.put_last.Reads as reads
-use Rattle.printout.proofs.lasts.put_last.Lts as lts
-use Rattle.printout.proofs.lasts.put_word.Reads as put-word-reads
-use Rattle.printout.proofs.rows.put_fields.Reads as put-fields-reads
-use Rattle.words.proofs.put.Reads as put-reads
 
 put-word-requires : tie.Need-put-word-requires
 put-word-requires c κs = omega (arith, last-length-is (c .before .before .before .args .last))

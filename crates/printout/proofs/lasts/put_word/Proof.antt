@@ -1,16 +1,12 @@
 -- `put_word` puts one of two words, and each fits where it is put.
 use borrow.Author.Needs.{needs}
-use mathlib.Core.Path.{_≡_, refl, sym, ap, _∙_}
-use Prim.Native.Nat.{_+_, _-_, _*_, _≤_, _<_}
+use mathlib.Core.Path.{refl, _∙_}
 use native.Mathlib.Omega.{arith}
 use borrow.Author.Needs.{needs}
 use Rattle.printout.specs.Print.{totalWord, refusedWord}
 use Rattle.printout.proofs.LastLine.{put-refused, put-total}
 use Rattle.printout.proofs.lasts.put_word.Statement.{statement}
 use Rattle.printout.proofs.lasts.put_word.Tie as tie
-use Rattle.printout.proofs.lasts.put_word.Reads as reads
-use Rattle.printout.proofs.lasts.put_word.Lts as lts
-use Rattle.words.proofs.put.Reads as put-reads
 
 slice-aggregate-put : tie.Need-slice-aggregate-put
 slice-aggregate-put c = refl

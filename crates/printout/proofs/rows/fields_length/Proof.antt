@@ -1,7 +1,6 @@
 -- `fields_length` adds up field by field: what it has and the fields left are all of them.
-use borrow.Author.Needs.{needs}
-use mathlib.Core.Path.{_≡_, refl, sym, ap, _∙_}
-use Prim.Native.Nat.{_+_, _-_, _*_, _≤_, _<_}
+use mathlib.Core.Path.{_≡_, ap}
+use Prim.Native.Nat.{_+_, _-_, _≤_}
 use native.Mathlib.Omega.{arith}
 use lib.ListN.{length, getD, drop}
 use Rattle.decimal.proofs.Written.{few-digits}
@@ -9,9 +8,6 @@ use Rattle.printout.specs.Print.{fieldsOf}
 use Rattle.printout.proofs.Fields.{field-length, first-length, no-field, fields-few}
 use Rattle.printout.proofs.rows.fields_length.Statement.{statement}
 use Rattle.printout.proofs.rows.fields_length.Tie as tie
-use Rattle.printout.proofs.rows.fields_length.Reads as reads
-use Rattle.printout.proofs.rows.fields_length.Lts as lts
-use Rattle.decimal.proofs.width.Reads as width-reads
 
 abbrev Inv-loop : tie.InvT-loop
 Inv-loop values bytes₀ i₀ bytes i = (i ≤ length values) × (bytes + length (fieldsOf (drop i values)) ≡ length (fieldsOf values))

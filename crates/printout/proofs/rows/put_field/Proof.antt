@@ -1,20 +1,15 @@
 -- `put_field` puts a comma and the digits after it; below 10 there is one digit.
 use borrow.Author.Needs.{needs}
-use mathlib.Core.Path.{_≡_, refl, sym, ap, _∙_}
-use Prim.Native.Nat.{_+_, _-_, _*_, _≤_, _<_}
+use mathlib.Core.Path.{ap, _∙_}
+use Prim.Native.Nat.{_+_}
 use native.Mathlib.Omega.{arith}
 use lib.ListN.{length, set, length-set}
 use Rattle.words.proofs.Stores.{length-put}
 use Rattle.decimal.specs.Decimal.{decimalOf}
-use Rattle.decimal.proofs.Written.{some-digit}
-use Rattle.printout.specs.Print.{fieldOf}
 use Rattle.printout.proofs.Fields.{field-length, small-field, store-small, put-digits}
 use borrow.Author.Needs.{needs}
 use Rattle.printout.proofs.rows.put_field.Statement.{statement}
 use Rattle.printout.proofs.rows.put_field.Tie as tie
-use Rattle.printout.proofs.rows.put_field.Reads as reads
-use Rattle.printout.proofs.rows.put_field.Lts as lts
-use Rattle.decimal.proofs.put.Reads as put-reads
 
 slice-write-out : tie.Need-slice-write-out
 slice-write-out c = omega (arith, field-length (c .before .args .value))

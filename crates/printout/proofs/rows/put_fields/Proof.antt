@@ -1,17 +1,13 @@
 -- `put_fields` puts field by field: the fields left, put where the loop stands, are all of them put.
-use borrow.Author.Needs.{needs}
 use mathlib.Core.Path.{_≡_, refl, sym, ap, _∙_}
-use Prim.Native.Nat.{_+_, _-_, _*_, _≤_, _<_}
+use Prim.Native.Nat.{_+_, _-_, _≤_}
 use native.Mathlib.Omega.{arith}
-use lib.ListN.{length, getD, drop}
+use lib.ListN.{length, drop}
 use lib.Seq.{sets}
-use Rattle.printout.specs.Print.{fieldOf, fieldsOf}
+use Rattle.printout.specs.Print.{fieldsOf}
 use Rattle.printout.proofs.Fields.{first-length, put-first, no-field}
 use Rattle.printout.proofs.rows.put_fields.Statement.{statement}
 use Rattle.printout.proofs.rows.put_fields.Tie as tie
-use Rattle.printout.proofs.rows.put_fields.Reads as reads
-use Rattle.printout.proofs.rows.put_fields.Lts as lts
-use Rattle.printout.proofs.rows.put_field.Reads as put-field-reads
 
 abbrev Inv-loop : tie.InvT-loop
 Inv-loop out₀ at values place₀ i₀ out place i = (i ≤ length values) × (length out ≡ length out₀) × (place + length (fieldsOf (drop i values)) ≡ at + length (fieldsOf values)) × (sets out place (fieldsOf (drop i values)) ≡ sets out₀ at (fieldsOf values))

@@ -1,10 +1,9 @@
 -- `put_rows` puts row by row: the lines left, put where the loop stands, are all of them put.
-use borrow.Author.Needs.{needs}
 use mathlib.Core.Path.{_≡_, refl, sym, ap, _∙_}
-use Prim.Native.Nat.{_+_, _-_, _*_, _≤_, _<_}
+use Prim.Native.Nat.{_+_, _-_, _*_, _≤_}
 use native.Mathlib.Omega.{arith}
 use lib.ListN.{length, take, drop, set, length-set}
-use lib.Seq.{sets, length-sets}
+use lib.Seq.{sets}
 use Rattle.words.proofs.Stores.{put-fits}
 use Rattle.decimal.specs.Decimal.{decimalOf}
 use Rattle.printout.specs.Print.{fieldsOf}
@@ -12,10 +11,6 @@ use Rattle.printout.specs.Parts.{rowLines}
 use Rattle.printout.proofs.RowLines.{one-row, all-left, first-line-length, row-stored, put-first-line, no-line}
 use Rattle.printout.proofs.rows.put_rows.Statement.{statement}
 use Rattle.printout.proofs.rows.put_rows.Tie as tie
-use Rattle.printout.proofs.rows.put_rows.Reads as reads
-use Rattle.printout.proofs.rows.put_rows.Lts as lts
-use Rattle.decimal.proofs.put.Reads as put-reads
-use Rattle.printout.proofs.rows.put_fields.Reads as put-fields-reads
 
 abbrev Inv-loop : tie.InvT-loop
 Inv-loop out₀ rows width ticks place₀ at₀ t₀ out place at t = (t ≤ ticks) × (at + (ticks - t) * width ≡ ticks * width) × (length out ≡ length out₀) × (place + length (rowLines width (ticks - t) t (drop at rows)) ≡ length (rowLines width ticks 0 rows)) × (sets out place (rowLines width (ticks - t) t (drop at rows)) ≡ sets out₀ 0 (rowLines width ticks 0 rows))

@@ -1,18 +1,12 @@
 -- `rows_length` adds up row by row: what it has and the lines left are all of them.
-use borrow.Author.Needs.{needs}
-use mathlib.Core.Path.{_≡_, refl, sym, ap, _∙_}
-use Prim.Native.Nat.{_+_, _-_, _*_, _≤_, _<_}
+use mathlib.Core.Path.{_≡_, ap}
+use Prim.Native.Nat.{_+_, _-_, _*_, _≤_}
 use native.Mathlib.Omega.{arith}
 use lib.ListN.{length, drop, length-take}
-use Rattle.printout.specs.Print.{fieldsOf}
 use Rattle.printout.specs.Parts.{rowLines}
 use Rattle.printout.proofs.RowLines.{one-row, all-left, first-line-length, no-line, lines-few}
 use Rattle.printout.proofs.rows.rows_length.Statement.{statement}
 use Rattle.printout.proofs.rows.rows_length.Tie as tie
-use Rattle.printout.proofs.rows.rows_length.Reads as reads
-use Rattle.printout.proofs.rows.rows_length.Lts as lts
-use Rattle.decimal.proofs.width.Reads as width-reads
-use Rattle.printout.proofs.rows.fields_length.Reads as fields-length-reads
 
 abbrev Inv-loop : tie.InvT-loop
 Inv-loop rows width ticks bytes₀ at₀ t₀ bytes at t = (t ≤ ticks) × (at + (ticks - t) * width ≡ ticks * width) × (bytes + length (rowLines width (ticks - t) t (drop at rows)) ≡ length (rowLines width ticks 0 rows))

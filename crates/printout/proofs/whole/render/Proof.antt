@@ -6,17 +6,11 @@ use native.Mathlib.Omega.{arith}
 use lib.Dec.{leb}
 use lib.ListN.{length}
 use Rattle.printout.specs.declared.lasts.Last.{Last}
-use Rattle.printout.specs.Parts.{rowLines, lastOf, linesOf, rendered}
+use Rattle.printout.specs.Parts.{rowLines, lastText, linesOf, rendered}
 use Rattle.printout.proofs.Rendering.{none-put, both-put, parts-fit}
 use borrow.Author.Needs.{needs}
 use Rattle.printout.proofs.whole.render.Statement.{statement}
 use Rattle.printout.proofs.whole.render.Tie as tie
-use Rattle.printout.proofs.whole.render.Reads as reads
-use Rattle.printout.proofs.whole.render.Lts as lts
-use Rattle.printout.proofs.lasts.last_of.Reads as last-of-reads
-use Rattle.printout.proofs.lasts.put_last.Reads as put-last-reads
-use Rattle.printout.proofs.rows.put_rows.Reads as put-rows-reads
-use Rattle.printout.proofs.whole.room.Reads as room-reads
 
 add-width : tie.Need-add-width
 add-width c = omega arith
@@ -39,7 +33,7 @@ room-is c t e = sym (c .room .ensures) ∙ e
 -- so where it was told that they do, there are places for both parts
 both-fit : (c : tie.After-room) → c .room .result ≡ true →
     let a = c .before .before .before .before .before .before .before .args in
-    length (rowLines (a .state .tasks .count + 2) (a .state .done .0) 0 (a .rows .now)) + length (lastOf (c .before .last-of .result)) ≤ length (a .out .now)
+    length (rowLines (a .state .tasks .count + 2) (a .state .done .0) 0 (a .rows .now)) + length (lastText (c .before .last-of .result)) ≤ length (a .out .now)
 both-fit c e =
     let a = c .before .before .before .before .before .before .before .args in
     parts-fit (a .state .tasks .count + 2) (a .state .done .0) (c .before .last-of .result) (a .rows .now) (length (a .out .now)) (room-is c true e)

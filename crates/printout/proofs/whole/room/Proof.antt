@@ -1,6 +1,6 @@
 -- `room` counts the bytes of the lines where there are fewer places than the longest run needs.
-use mathlib.Core.Path.{_≡_, refl, sym, ap, _∙_}
-use Prim.Native.Nat.{ℕ, _+_, _-_, _*_, _≤_, _<_}
+use mathlib.Core.Path.{_≡_, sym, ap}
+use Prim.Native.Nat.{ℕ, _+_}
 use native.Mathlib.Omega.{arith}
 use borrow.Author.Needs.{needs}
 use borrow.Author.Tests.{le-leb}
@@ -10,10 +10,6 @@ use Rattle.printout.specs.Parts.{linesOf}
 use Rattle.printout.proofs.Rendering.{lines-length}
 use Rattle.printout.proofs.whole.room.Statement.{statement}
 use Rattle.printout.proofs.whole.room.Tie as tie
-use Rattle.printout.proofs.whole.room.Reads as reads
-use Rattle.printout.proofs.whole.room.Lts as lts
-use Rattle.printout.proofs.lasts.last_length.Reads as last-length-reads
-use Rattle.printout.proofs.rows.rows_length.Reads as rows-length-reads
 
 returns : tie.Need-returns
 returns c =
