@@ -15,9 +15,9 @@ use Rattle.rules.proofs.Lists.{upTo-ext}
 use Rattle.runfile.specs.declared.RunFile.{RunFile}
 use Rattle.runfile.specs.RunFile.{runFileOf}
 use Rattle.runfile.proofs.Good.{good-file}
-use Rattle.player.specs.Plays.{Play, endsIn, ended, playOf}
+use Rattle.player.specs.Plays.{Play, endsIn, ended, playOf, startIn}
 use Rattle.played.proofs.StartLaws.{start-is-sound, start-is-shaped, start-done, start-count}
-use Rattle.played.proofs.TextLaws.{startIn, of-text, text-played, run-room}
+use Rattle.played.proofs.TextLaws.{of-text, text-played, run-room}
 use Rattle.promises.specs.Runs.{started, ticked, after, steps, granted}
 use Rattle.promises.specs.Counts.{CountsComeFromTheGrants}
 use Rattle.promises.specs.NeverLate.{NeverLateInAnyRun}

@@ -21,17 +21,11 @@ use Rattle.rules.proofs.Loads.{top-limit}
 use Rattle.runfile.specs.declared.RunFile.{RunFile}
 use Rattle.runfile.specs.RunFile.{runFileOf}
 use Rattle.runfile.proofs.Good.{good-file}
-use Rattle.player.specs.Plays.{Play, endsIn, ended, playFrom, playFile, playOf}
+use Rattle.player.specs.Plays.{Play, endsIn, ended, playFrom, startIn, playFile, playOf}
 use Rattle.player.specs.Rows.{rowsOf, enough}
 use Rattle.played.specs.Promised.{PlaysOn, PlayRight, OfTheBench, mostPlaces}
 use Rattle.played.proofs.PlayLaws.{plays-on}
 use Rattle.played.proofs.StartLaws.{start-most, start-refused, start-is-sound, start-is-shaped, start-done, start-counted, start-idle}
-
--- start's answer to the table of a run file
-abbrev pub startIn : RunFile → Started
-startIn f =
-    startOf (take (f .tasks .count) (f .tasks .firsts)) (take (f .tasks .count) (f .tasks .seconds))
-    (take (f .speeds .count) (f .speeds .firsts)) (take (f .speeds .count) (f .speeds .seconds))
 
 -- a text, by whether it is a run file and whether start takes its table
 module _ (text : List ℕ) where

@@ -27,7 +27,7 @@ module _ (s : State) (e : Ends) (run places : ℕ) (p : Runnable s e run places)
   cut l = take (e .count - 0) l
 
   cut-long : (l : List ℕ) → length l ≡ 1000 → length (cut l) ≡ e .count
-  cut-long l h = length-take-le (e .count - 0) l (omega (arith, p .short)) ∙ omega arith
+  cut-long l h = length-take-le (e .count - 0) l (omega (arith, p .ends .few)) ∙ omega arith
 
   cut-at : (l : List ℕ) (k : ℕ) → k < e .count → getD (cut l) k 0 ≡ getD l k 0
   cut-at l k h = getD-take (e .count - 0) l k 0 (omega arith)
@@ -37,17 +37,17 @@ module _ (s : State) (e : Ends) (run places : ℕ) (p : Runnable s e run places)
   lines = record { named = named; rise = rise; listed = listed }
     where
       long : length (cut (e .ticks)) ≡ e .count
-      long = cut-long (e .ticks) (p .ticks)
+      long = cut-long (e .ticks) (p .ends .ticks)
 
       named : Named (cut (e .ticks)) (cut (e .tasks)) (cut (e .cycles)) (s .tasks .count)
       named =
-          (cut-long (e .tasks) (p .tasks) ∙ sym long, cut-long (e .cycles) (p .cycles) ∙ sym long, λ k h. rw (cut-at (e .tasks) k (omega (arith, long))) (p .named k (omega (arith, long))))
+          (cut-long (e .tasks) (p .ends .tasks) ∙ sym long, cut-long (e .cycles) (p .ends .cycles) ∙ sym long, λ k h. rw (cut-at (e .tasks) k (omega (arith, long))) (p .ends .exists k (omega (arith, long))))
 
       rise : (k : ℕ) → k + 1 < length (cut (e .ticks)) → below (λ i. getD (cut (e .ticks)) i 0) (λ i. getD (cut (e .tasks)) i 0) k (k + 1)
       rise k h =
           rw
           (cut-at (e .ticks) k (omega (arith, long)), cut-at (e .ticks) (k + 1) (omega (arith, long)), cut-at (e .tasks) k (omega (arith, long)), cut-at (e .tasks) (k + 1) (omega (arith, long)))
-          (p .rise k (omega (arith, long)))
+          (p .ends .rise k (omega (arith, long)))
 
       listed : endsOf e ≡ upTo (length (cut (e .ticks))) (lineAt (cut (e .ticks)) (cut (e .tasks)) (cut (e .cycles)))
       listed =

@@ -1,5 +1,5 @@
 -- What play answers in each of its cases, over plain values: a text that is no run file, a start that refuses, no room, and a run played. By the tests that its definition makes.
-use mathlib.Core.Path.{_≡_, sym, ap, _∙_}
+use mathlib.Core.Path.{_≡_, sym, ap, subst, _∙_}
 use mathlib.Core.Bool.{true, false, cond}
 use mathlib.Core.List.{List}
 use Prim.Native.Nat.{ℕ, _+_, _-_, _*_, _≤_, _<_}
@@ -17,7 +17,7 @@ use Rattle.rules.specs.Admission.{greatOf}
 use Rattle.rules.specs.Calls.{tasksFrom, ladderFrom, freshState, zeroState, startOf}
 use Rattle.runfile.specs.declared.RunFile.{RunFile}
 use Rattle.runfile.specs.RunFile.{runFileOf}
-use Rattle.runfile.specs.Good.{GoodFile}
+use Rattle.runfile.specs.Good.{GoodEnds, GoodFile}
 use Rattle.runfile.proofs.Good.{good-file}
 use Rattle.player.specs.declared.Played.{Played}
 use Rattle.player.specs.Plays.{endsOf, endsIn, ended, playFrom, playFile, playOf}
@@ -86,12 +86,7 @@ module _ (text : List ℕ) (f : RunFile) (read : f ≡ runFileOf text) (rows : L
             record {
               fresh = start-done _ _ _ _ r told z;
               few = omega (arith, known, good .tasks .few);
-              short = good .ends .few;
-              ticks = good .ends .ticks;
-              tasks = good .ends .tasks;
-              cycles = good .ends .cycles;
-              rise = good .ends .rise;
-              named = λ k l. rw known (good .ends .exists k l);
+              ends = subst (λ (n : ℕ). GoodEnds n (f .ends)) (sym known) (good .ends);
               room = rw known h;
             }
 

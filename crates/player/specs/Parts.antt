@@ -3,12 +3,12 @@ use Prim.Native.Nat.{ℕ, zero, suc, _+_, _-_, _*_, _≤_, _<_}
 use mathlib.Core.Path.{_≡_}
 use mathlib.Core.Bool.{Bool, true, cond}
 use mathlib.Core.List.{List, [], _∷_}
-use mathlib.Core.Logic.{_⊎_}
 use lib.Dec.{eqb}
 use lib.ListN.{length, getD, set, drop}
 use Rattle.rules.specs.declared.State.{State}
 use Rattle.rules.specs.Calls.{zeroState}
 use Rattle.runfile.specs.declared.Ends.{Ends}
+use Rattle.runfile.specs.Good.{GoodEnds}
 use Rattle.player.specs.declared.Played.{Played}
 use Rattle.player.specs.Plays.{Play}
 
@@ -42,14 +42,9 @@ Named when who cycles n =
     × (length cycles ≡ length when)
     × ((k : ℕ) → k < length when → (1 ≤ getD who k 0) × (getD who k 0 ≤ n))
 
--- what a run asks for before its first tick: a state at tick 0, end lines in their arrays that rise and name its tasks, and a row for each tick
+-- what a run asks for before its first tick: a state at tick 0, end lines that are good for its tasks, and a row for each tick
 pub record Runnable (s : State) (e : Ends) (run places : ℕ) : Type 0 where
   pub fresh : s .done .0 ≡ 0
   pub few : s .tasks .count ≤ 16
-  pub short : e .count ≤ 1000
-  pub ticks : length (e .ticks) ≡ 1000
-  pub tasks : length (e .tasks) ≡ 1000
-  pub cycles : length (e .cycles) ≡ 1000
-  pub rise : (k : ℕ) → k + 1 < e .count → (getD (e .ticks) k 0 < getD (e .ticks) (k + 1) 0) ⊎ ((getD (e .ticks) k 0 ≡ getD (e .ticks) (k + 1) 0) × (getD (e .tasks) k 0 < getD (e .tasks) (k + 1) 0))
-  pub named : (k : ℕ) → k < e .count → (1 ≤ getD (e .tasks) k 0) × (getD (e .tasks) k 0 ≤ s .tasks .count)
+  pub ends : GoodEnds (s .tasks .count) e
   pub room : run * (s .tasks .count + 2) ≤ places

@@ -5,6 +5,7 @@ use mathlib.Core.List.{List, [], _∷_}
 use lib.Dec.{eqb}
 use lib.ListN.{getD, take, replicate}
 use Rattle.rules.specs.declared.State.{State}
+use Rattle.rules.specs.declared.Started.{Started}
 use Rattle.rules.specs.Words.{upTo}
 use Rattle.rules.specs.Choice.{speedOf}
 use Rattle.rules.specs.Settlement.{settled}
@@ -74,12 +75,16 @@ playFrom ends (suc left) s =
     (before (tickPlayed s report) (playFrom ends left (r .state)))
     (ended (r .number) s)
 
+-- start's answer to the table of a run file: its task lines and its speed lines
+abbrev pub startIn : RunFile → Started
+startIn f =
+    startOf (take (f .tasks .count) (f .tasks .firsts)) (take (f .tasks .count) (f .tasks .seconds))
+    (take (f .speeds .count) (f .speeds .firsts)) (take (f .speeds .count) (f .speeds .seconds))
+
 -- a run file: start, and then its ticks; a refused start ends the run
 unfoldable pub playFile : RunFile → Play
 playFile f =
-    let n = f .tasks .count in
-    let m = f .speeds .count in
-    let r = startOf (take n (f .tasks .firsts)) (take n (f .tasks .seconds)) (take m (f .speeds .firsts)) (take m (f .speeds .seconds)) in
+    let r = startIn f in
     cond (eqb (r .number) 0)
     (playFrom (endsIn f) (f .ticks) (r .state))
     (ended (r .number) (r .state))

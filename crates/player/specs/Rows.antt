@@ -3,14 +3,15 @@ use Prim.Native.Nat.{ℕ, _+_, _*_}
 use mathlib.Core.Bool.{Bool, true, false, cond, _||_, not}
 use mathlib.Core.List.{List, [], _∷_, _++_}
 use lib.Dec.{eqb, leb}
-use lib.ListN.{length, take}
+use lib.ListN.{length}
 use lib.Seq.{sets}
-use Rattle.rules.specs.Calls.{startOf, zeroState}
+use Rattle.rules.specs.Calls.{zeroState}
 use Rattle.runfile.specs.declared.RunFile.{RunFile}
 use Rattle.runfile.specs.RunFile.{runFileOf}
 use Rattle.player.specs.declared.Played.{Played}
-use Rattle.player.specs.Plays.{Tick, playOf}
+use Rattle.player.specs.Plays.{Tick, startIn, playOf}
 
+-- the row of a tick, and the rows of ticks one after the other
 unfoldable pub rowOf : Tick → List ℕ
 rowOf x = x .speed ∷ (x .grants ++ (x .idle ∷ []))
 
@@ -21,10 +22,7 @@ rowsOf (x ∷ xs) = rowOf x ++ rowsOf xs
 -- whether so many places are enough for a row of each tick that the run line names; a run that ends before its first tick needs none
 unfoldable pub enough : RunFile → ℕ → Bool
 enough f places =
-    let n = f .tasks .count in
-    let m = f .speeds .count in
-    let r = startOf (take n (f .tasks .firsts)) (take n (f .tasks .seconds)) (take m (f .speeds .firsts)) (take m (f .speeds .seconds)) in
-    not (eqb (f .number) 0) || not (eqb (r .number) 0) || leb (f .ticks * (n + 2)) places
+    not (eqb (f .number) 0) || not (eqb (startIn f .number) 0) || leb (f .ticks * (f .tasks .count + 2)) places
 
 -- what play answers for a text and a list of so many places: how the run ended; or that there is no room, and nothing was played
 unfoldable pub playedOf : List ℕ → ℕ → Played

@@ -43,7 +43,7 @@ part-enter-start c = zero-le
 
 part-enter-end : tie.Need-part-enter-end Inv-loop μ-loop
 part-enter-end c = let p = begin (c .before .before) .pre in
-    omega (arith, p .short, p .ticks)
+    omega (arith, p .ends .few, p .ends .ticks)
 
 sub-enter-2 : tie.Need-sub-enter-2 Inv-loop μ-loop
 sub-enter-2 c = zero-le
@@ -53,7 +53,7 @@ part-enter-start-2 c = zero-le
 
 part-enter-end-2 : tie.Need-part-enter-end-2 Inv-loop μ-loop
 part-enter-end-2 c = let p = begin (c .before .before .before .before) .pre in
-    omega (arith, p .short, p .tasks)
+    omega (arith, p .ends .few, p .ends .tasks)
 
 sub-enter-3 : tie.Need-sub-enter-3 Inv-loop μ-loop
 sub-enter-3 c = zero-le
@@ -63,7 +63,7 @@ part-enter-start-3 c = zero-le
 
 part-enter-end-3 : tie.Need-part-enter-end-3 Inv-loop μ-loop
 part-enter-end-3 c = let p = begin (c .before .before .before .before .before .before) .pre in
-    omega (arith, p .short, p .cycles)
+    omega (arith, p .ends .few, p .ends .cycles)
 
 sub-enter-4 : tie.Need-sub-enter-4 Inv-loop μ-loop
 sub-enter-4 c = zero-le
