@@ -8,14 +8,13 @@ use native.Mathlib.Nat.{mul-le-mul}
 use native.Mathlib.Omega.{arith}
 use native.Mathlib.Decide.{ℕ-discrete}
 use lib.Dec.{eqb, leb}
-use lib.ListN.{length, take}
+use lib.ListN.{length}
 use borrow.Author.Tests.{eqb-true, ne-eqb, le-leb}
 use Rattle.rules.specs.declared.Tasks.{Tasks}
-use Rattle.rules.specs.declared.Started.{Started}
 use Rattle.rules.specs.Words.{upTo, total}
 use Rattle.rules.specs.Limits.{mostSpeed, mostTicks}
 use Rattle.rules.specs.State.{speedsOf, topOf}
-use Rattle.rules.specs.Calls.{tasksFrom, freshTally, freshState, zeroState, startOf}
+use Rattle.rules.specs.Calls.{tasksFrom, freshTally, freshState, zeroState}
 use Rattle.rules.proofs.Soundness.{Sound, sound-facts}
 use Rattle.rules.proofs.Loads.{top-limit}
 use Rattle.runfile.specs.declared.RunFile.{RunFile}
