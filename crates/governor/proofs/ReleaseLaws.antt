@@ -12,6 +12,7 @@ use borrow.Author.Tests.{eq-eqb, ne-eqb, not-true, not-false}
 use Rattle.units.specs.Units.{ticks}
 use Rattle.units.specs.declared.Ticks.{Ticks}
 use Rattle.rules.specs.declared.Tasks.{Tasks}
+use Rattle.rules.specs.declared.Jobs.{Jobs}
 use Rattle.rules.specs.declared.Settling.{Settling}
 use Rattle.rules.specs.declared.Tally.{Tally}
 use Rattle.rules.specs.declared.State.{State}
@@ -58,12 +59,24 @@ module _ (sofar : Releasing) (i late : ℕ) where
   unfolding released
   late-none o e = rw (not-false (getD (sofar .jobs .over) i false) o, e, add-zero (sofar .late))
 
+-- the counts with another count of late jobs
+abbrev pub withLate : Tally → ℕ → Tally
+withLate tally late = record { counts = tally .counts; idle = tally .idle; late = late; cut = tally .cut }
+
+-- a turn keeps all but the count of late jobs
+pub kept : (after tally first : Tally) (late : ℕ) → after ≡ withLate tally late → tally ≡ withLate first (tally .late) → after ≡ withLate first (after .late)
+kept after tally first late e k = rw e (ap (λ t. withLate t late) k)
+
+-- the releases so far, part by part
+pub same-parts : (jobs jobs₁ : Jobs) (tally tally₁ : Tally) → jobs ≡ jobs₁ → tally ≡ tally₁ → _≡_ {A = Releasing} (record { jobs = jobs; late = tally .late }) (record { jobs = jobs₁; late = tally₁ .late })
+same-parts jobs jobs₁ tally tally₁ j t = rw (j, t)
+
 -- the whole state after a tick, from its counts and its releases
 module _ (s : State) (place : ℕ) (outcome : Settling) (tally : Tally) (counts : tally ≡ counted (s .tally) place outcome) where
   pub late-is : tally .late ≡ s .tally .late
   unfolding counted
   late-is = ap (λ (t : Tally). t .late) counts
 
-  pub next-is : (fresh : Releasing) → fresh ≡ releases (s .tasks) (s .done .0 + 1) (s .tasks .count) (record { jobs = outcome .jobs; late = tally .late }) → record { done = ticks (s .done .0 + 1); tasks = s .tasks; jobs = fresh .jobs; ladder = s .ladder; tally = record { counts = tally .counts; idle = tally .idle; late = fresh .late; cut = tally .cut } } ≡ nextOf s place outcome
+  pub next-is : (fresh : Releasing) (after : Tally) → fresh ≡ releases (s .tasks) (s .done .0 + 1) (s .tasks .count) (record { jobs = outcome .jobs; late = tally .late }) → after ≡ withLate tally (fresh .late) → record { done = ticks (s .done .0 + 1); tasks = s .tasks; jobs = fresh .jobs; ladder = s .ladder; tally = after } ≡ nextOf s place outcome
   unfolding nextOf
-  next-is fresh e = rw (e, counts)
+  next-is fresh after e a = rw (a, e, counts)

@@ -1,10 +1,10 @@
 -- What the private functions of a tick and of energy ask, and what one release answers: nothing here is part of what the governor promises.
 use Prim.Native.Nat.{ℕ, zero, suc, _+_, _%_, _≤_, _<_}
 use mathlib.Core.Path.{_≡_}
-use mathlib.Core.Bool.{false, cond}
+use mathlib.Core.Bool.{true, false, cond}
 use mathlib.Core.List.{List}
 use lib.Dec.{eqb}
-use lib.ListN.{getD}
+use lib.ListN.{length, getD}
 use Rattle.units.specs.Units.{ticks}
 use Rattle.units.specs.declared.Ticks.{Ticks}
 use Rattle.units.specs.declared.Cycles.{Cycles}
@@ -17,9 +17,11 @@ use Rattle.rules.specs.declared.Settling.{Settling}
 use Rattle.rules.specs.declared.Releasing.{Releasing}
 use Rattle.rules.specs.declared.State.{State}
 use Rattle.rules.specs.Words.{total}
-use Rattle.rules.specs.Limits.{mostTasks, mostSpeeds}
+use Rattle.rules.specs.Limits.{mostTasks, mostSpeeds, mostTicks}
 use Rattle.rules.specs.State.{periodAt, countAt, putAt}
+use Rattle.rules.specs.Choice.{speedPlace}
 use Rattle.rules.specs.Counting.{energySum}
+use Rattle.rules.specs.Numbers.{sound}
 
 -- the number past the largest of 64 bits
 abbrev pub past64 : ℕ
@@ -63,3 +65,11 @@ pub record Steps (s : State) (place : ℕ) (speed : Speed) (dues : Dues) (outcom
   pub room : s .done .0 + 1 < past64
   pub counts : Countable (s .tally) place speed outcome
   pub releases : Timely (s .tasks) dues (ticks (s .done .0 + 1)) (s .tally .late)
+
+-- a tick that passes rows 9 to 12, at the place of the lowest speed that carries the load
+pub record Passed (s : State) (place : ℕ) (report : List ℕ) (grantPlaces : ℕ) : Type 0 where
+  pub whole : sound s ≡ true
+  pub goes-on : s .done .0 < mostTicks
+  pub reported : length report ≡ s .tasks .count
+  pub granted : grantPlaces ≡ s .tasks .count
+  pub lowest : place ≡ speedPlace s

@@ -1,10 +1,5 @@
-// Rules 5 and 6: what a tick adds to the counts, its grants written out, and the energy of the counts.
+// Rules 5 and 6: what a tick adds to the counts, and the energy of the counts.
 ghost use mathlib.Core.Path.{_≡_};
-ghost use Prim.Native.Nat.{_≤_};
-ghost use lib.ListN.{length, getD};
-ghost use Rattle.units.specs.Units.{cycles};
-ghost use Rattle.rules.specs.Words.{upTo};
-ghost use Rattle.rules.specs.Limits.{mostTasks};
 ghost use Rattle.rules.specs.Counting.{counted, energySum};
 ghost use Rattle.governor.specs.Parts.{Countable, Affordable};
 use rules::Ladder;
@@ -31,19 +26,6 @@ pub(crate) fn count_tick(tally: Tally, place: usize, speed: Speed, outcome: Sett
         idle: Cycles(idle.0 + rest),
         late: tally.late,
         cut: tally.cut + outcome.cut,
-    }
-}
-
-// Each task's cycles written to the lent grants list.
-pub(crate) fn write_grants(shares: [Cycles; 16], grants: &mut [u64])
-    requires { ⌜ length (now grants) ≤ mostTasks ⌝ }
-    ensures { λ r. ⌜ now (grants .exit) ≡ upTo (length (now (grants .entry))) (λ i. getD shares i (cycles 0) .0) ⌝ }
-{
-    let mut i = 0;
-    while i < grants.len() {
-        let share = shares[i];
-        grants[i] = share.0;
-        i += 1;
     }
 }
 

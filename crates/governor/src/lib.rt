@@ -6,6 +6,7 @@ mod releasing;
 ghost use mathlib.Core.Path.{_≡_};
 ghost use lib.ListN.{length};
 ghost use Rattle.rules.specs.Calls.{startOf, nowOf, tickOf, grantsOf, energyOf};
+ghost use Rattle.governor.specs.Parts.{Passed};
 use rules::Started;
 use rules::State;
 use rules::Ticked;
@@ -77,16 +78,35 @@ pub fn tick(state: State, report: &[u64], grants: &mut [u64]) -> Ticked
     if ladder.count <= place {
         return refusals::unticked(12, state);
     }
+    tick_at(state, place, report, grants)
+}
+
+// tick from row 13 on, at the place of its speed: the report settled and the grants written as rule 4 says, the next state as rule 5 says.
+fn tick_at(state: State, place: usize, report: &[u64], grants: &mut [u64]) -> Ticked
+    requires { ⌜ Passed state place (now report) (length (now grants)) ⌝ }
+    ensures { λ r.
+        ⌜
+        (r ≡ tickOf state (now (report .entry)) (length (now (grants .entry))))
+        × (now (grants .exit) ≡ grantsOf state (now (report .entry)) (now (grants .entry)))
+        ⌝ }
+{
+    let tasks = state.tasks;
+    let ladder = state.ladder;
     let speeds = ladder.speeds;
     let speed = speeds[place];
-    let dues = choosing::dues_of(done, tasks);
+    let dues = choosing::dues_of(state.done, tasks);
     let settled = settlement::settle(tasks, state.jobs, dues, speed, report);
     if !settled.lawful {
         return refusals::unticked(13, state);
     }
     let outcome = settled.outcome;
     let shares = outcome.grants;
-    counts::write_grants(shares, grants);
+    let mut i = 0;
+    while i < grants.len() {
+        let share = shares[i];
+        grants[i] = share.0;
+        i += 1;
+    }
     Ticked {
         number: 0,
         state: releasing::next_state(state, place, speed, dues, outcome),

@@ -1,12 +1,11 @@
 // The governor's state and the answers of the four calls, as plain values. Document 01's rules on them are the definitions in specs/.
-ghost use mathlib.Core.Path.{_≡_};
-ghost use Rattle.rules.specs.State.{jobAt};
 use units::Cycles;
 use units::Speed;
 use units::Ticks;
 use units::Volts;
 
 // The task side of a table: how many tasks, the great period H, and each task's period and reserve.
+#[repr(C)]
 pub struct Tasks {
     pub count: usize,
     pub great: Ticks,
@@ -15,6 +14,7 @@ pub struct Tasks {
 }
 
 // Each task's current job: the cycles that it ran, and whether it is over.
+#[repr(C)]
 pub struct Jobs {
     pub run: [Cycles; 16],
     pub over: [bool; 16],
@@ -29,6 +29,7 @@ pub struct Job {
 }
 
 // The speed side of a table: how many speeds, and each with its volts.
+#[repr(C)]
 pub struct Ladder {
     pub count: usize,
     pub speeds: [Speed; 8],
@@ -36,6 +37,7 @@ pub struct Ladder {
 }
 
 // What has been counted: cycles granted at each speed, idle cycles, jobs that were late, jobs that were cut.
+#[repr(C)]
 pub struct Tally {
     pub counts: [Cycles; 8],
     pub idle: Cycles,
@@ -44,6 +46,7 @@ pub struct Tally {
 }
 
 // The whole state: the ticks done so far, the table, the current jobs and the counts.
+#[repr(C)]
 pub struct State {
     pub done: Ticks,
     pub tasks: Tasks,
@@ -84,6 +87,7 @@ pub enum Choice {
 }
 
 // What start answers: a number, and the fresh state or the all-zero one.
+#[repr(C)]
 pub struct Started {
     pub number: u64,
     pub state: State,
@@ -97,37 +101,15 @@ pub struct Told {
 }
 
 // What tick answers: a number, and the next state or the one given.
+#[repr(C)]
 pub struct Ticked {
     pub number: u64,
     pub state: State,
 }
 
 // What energy answers: a number, and the energy or 0.
+#[repr(C)]
 pub struct Used {
     pub number: u64,
     pub energy: u64,
-}
-
-// The task at a place with its current job; nothing but zeros past the array's end.
-pub fn job_at(tasks: Tasks, jobs: Jobs, i: usize) -> Job
-    ensures { λ r. ⌜ r ≡ jobAt tasks jobs i ⌝ }
-{
-    if i >= 16 {
-        return Job {
-            period: Ticks(0),
-            reserve: Cycles(0),
-            run: Cycles(0),
-            over: false,
-        };
-    }
-    let periods = tasks.periods;
-    let reserves = tasks.reserves;
-    let run = jobs.run;
-    let over = jobs.over;
-    Job {
-        period: periods[i],
-        reserve: reserves[i],
-        run: run[i],
-        over: over[i],
-    }
 }

@@ -1,2 +1,3 @@
+pub mod ClimbLaws
 pub mod RungLaws
 pub mod TopLaws

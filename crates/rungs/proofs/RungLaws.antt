@@ -1,9 +1,10 @@
--- The tests of the speed places, case by case, and one turn of the walk over speeds and volts together.
+-- The tests of the speed places, case by case, and one turn of the walk past the count.
 use mathlib.Core.Path.{_≡_, refl, sym, ap, _∙_}
 use mathlib.Core.Bool.{Bool, true, false, _&&_}
 use mathlib.Core.List.{List}
-use Prim.Native.Nat.{ℕ, _+_, _≤_, _<_}
-use lib.Dec.{eqb, leb, ltb}
+use Prim.Native.Nat.{ℕ, max, _+_, _≤_, _<_}
+use native.Mathlib.Omega.{arith}
+use lib.Dec.{eqb}
 use lib.ListN.{getD, drop}
 use borrow.Author.Tests.{ne-eqb, eq-eqb}
 use Rattle.units.specs.Units.{cycles, speed, volts}
@@ -13,45 +14,13 @@ use Rattle.units.specs.declared.Volts.{Volts}
 use Rattle.rules.specs.declared.Ladder.{Ladder}
 use Rattle.rules.specs.declared.Tally.{Tally}
 use Rattle.rules.specs.Words.{upTo, every}
-use Rattle.rules.specs.Limits.{mostSpeeds, mostSpeed, mostVolts, upToMost}
+use Rattle.rules.specs.Limits.{mostSpeeds}
 use Rattle.rules.specs.State.{speedAt, voltsAt, countAt, speedsOf, voltsOf}
 use Rattle.rules.specs.Numbers.{speedsRise, voltsNeverFall}
-use Rattle.rules.proofs.Lists.{upTo-rest, upTo-end}
 use Rattle.rules.proofs.Ranges.{in-range, too-low, too-high}
 use Rattle.rungs.specs.Parts.{climbing, zeros, zerosFrom}
 use Rattle.rungs.specs.Rungs.{unusedRung, ladderRight}
 use Rattle.rules.proofs.WalkLaws.{walk-on, walk-stop, walk-end}
-
--- a conjunction whose second part does not hold
-second : (a b : Bool) → b ≡ false → (a && b) ≡ false
-second true b e = e
-second false b e = refl
-
--- speeds and volts from a place on, after a speed and a volt value: both go on, one of them stops, or both end
-module _ (n : ℕ) (ss : List Speed) (vs : List Volts) (low faint i : ℕ) where
-  abbrev s : ℕ → ℕ
-  s k = getD ss k (speed 0) .0
-
-  abbrev v : ℕ → ℕ
-  v k = getD vs k (volts 0) .0
-
-  pub climb-on : i < n → (upToMost mostSpeed (s i) && ltb low (s i)) ≡ true → (upToMost mostVolts (v i) && leb faint (v i)) ≡ true → climbing n ss vs low faint i ≡ climbing n ss vs (s i) (v i) (i + 1)
-  unfolding climbing speedsRise voltsNeverFall
-  climb-on h a b = rw (upTo-rest n s i h, upTo-rest n v i h, a, b)
-
-  pub climb-slow : i < n → (upToMost mostSpeed (s i) && ltb low (s i)) ≡ false → climbing n ss vs low faint i ≡ false
-  unfolding climbing speedsRise
-  climb-slow h a = rw (upTo-rest n s i h, a)
-
-  pub climb-faint : i < n → (upToMost mostVolts (v i) && leb faint (v i)) ≡ false → climbing n ss vs low faint i ≡ false
-  unfolding climbing voltsNeverFall
-  climb-faint h b =
-      second (speedsRise low (drop i (upTo n s))) (voltsNeverFall faint (drop i (upTo n v)))
-      (rw (upTo-rest n v i h, b))
-
-  pub climb-end : n ≤ i → climbing n ss vs low faint i ≡ true
-  unfolding climbing speedsRise voltsNeverFall
-  climb-end h = rw (upTo-end n s i h, upTo-end n v i h)
 
 -- a place past the count
 module _ (s : Speed) (v : Volts) (c : Cycles) where
@@ -67,22 +36,32 @@ module _ (s : Speed) (v : Volts) (c : Cycles) where
   unfolding zeros
   count-left a b = rw (eq-eqb (s .0) 0 a, eq-eqb (v .0) 0 b)
 
--- all places from one on, past the count
-module _ (ss : List Speed) (vs : List Volts) (cs : List Cycles) (i : ℕ) where
+-- a walk over all places, which tests those from the count n on: before the place i, what is left to test begins at the greater of both
+module _ (ss : List Speed) (vs : List Volts) (cs : List Cycles) (n i : ℕ) where
   abbrev unused : ℕ → Bool
   unused k = zeros (getD ss k (speed 0)) (getD vs k (volts 0)) (getD cs k (cycles 0))
 
-  pub past-on : i < mostSpeeds → unused i ≡ true → zerosFrom ss vs cs i ≡ zerosFrom ss vs cs (i + 1)
-  unfolding zerosFrom
-  past-on h e = walk-on unused mostSpeeds (λ k. k) i h e
+  pub past-used : i < n → zerosFrom ss vs cs (max i n) ≡ zerosFrom ss vs cs (max (i + 1) n)
+  past-used u =
+      let e : max i n ≡ max (i + 1) n = omega arith in
+      rw e
 
-  pub past-stop : i < mostSpeeds → unused i ≡ false → zerosFrom ss vs cs i ≡ false
+  pub past-on : i < mostSpeeds → n ≤ i → unused i ≡ true → zerosFrom ss vs cs (max i n) ≡ zerosFrom ss vs cs (max (i + 1) n)
   unfolding zerosFrom
-  past-stop h e = walk-stop unused mostSpeeds (λ k. k) i h e
+  past-on h u e =
+      let a : max i n ≡ i = omega arith in
+      let b : max (i + 1) n ≡ i + 1 = omega arith in
+      rw (a, b) (walk-on unused mostSpeeds (λ k. k) i h e)
 
-  pub past-end : mostSpeeds ≤ i → zerosFrom ss vs cs i ≡ true
+  pub past-stop : i < mostSpeeds → n ≤ i → unused i ≡ false → zerosFrom ss vs cs (max i n) ≡ false
   unfolding zerosFrom
-  past-end h = walk-end unused mostSpeeds (λ k. k) i h
+  past-stop h u e =
+      let a : max i n ≡ i = omega arith in
+      rw a (walk-stop unused mostSpeeds (λ k. k) i h e)
+
+  pub past-end : mostSpeeds ≤ i → zerosFrom ss vs cs (max i n) ≡ true
+  unfolding zerosFrom
+  past-end h = walk-end unused mostSpeeds (λ k. k) (max i n) (omega arith)
 
 -- the whole speed side
 module _ (l : Ladder) (t : Tally) where

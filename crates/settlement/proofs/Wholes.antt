@@ -1,22 +1,20 @@
 -- The whole settlement from its parts: what `order_of` answers is an order that can be settled, and rule 4's last bullet comes first.
-use mathlib.Core.Path.{_≡_, refl}
+use mathlib.Core.Path.{_≡_}
 use mathlib.Core.Bool.{true, false}
 use mathlib.Core.List.{List}
 use Prim.Native.Nat.{ℕ, _≤_, min}
 use native.Mathlib.Omega.{arith}
 use lib.ListN.{length}
-use Rattle.units.specs.Units.{cycles}
 use Rattle.rules.specs.declared.Tasks.{Tasks}
 use Rattle.rules.specs.declared.Jobs.{Jobs}
 use Rattle.rules.specs.declared.Dues.{Dues}
 use Rattle.rules.specs.Limits.{mostTasks}
 use Rattle.rules.specs.Settlement.{overEntriesZero, atTickStart}
-use Rattle.rules.proofs.Lists.{length-upTo}
 use Rattle.rules.proofs.Orders.{order-below, order-short}
 use Rattle.choosing.specs.Choosing.{dueIn, readyIn, orderIn, listed}
 use Rattle.choosing.proofs.Agrees.{listed-list, listed-long, listed-below}
 use Rattle.settlement.specs.Settled.{settledOf}
-use Rattle.settlement.specs.Parts.{Placed, Begun, orderList, settledFrom}
+use Rattle.settlement.specs.Parts.{Placed, orderList, settledFrom, refusedAs}
 
 -- an order of the tasks, in an array
 module _ (d : Dues) (js : Jobs) (n : ℕ) where
@@ -37,19 +35,10 @@ module _ (d : Dues) (js : Jobs) (n : ℕ) where
   unfolding orderList
   listed-order = listed-list (orderIn d js n) short
 
--- the tick's start
-pub begun-start : (js : Jobs) (speed : ℕ) → length (js .run) ≡ mostTasks → length (js .over) ≡ mostTasks → Begun (atTickStart js speed)
-unfolding atTickStart
-begun-start js speed r m =
-    record {
-      long = record { runs = r; marks = m; grants = length-upTo mostTasks (λ i. cycles 0) };
-      none-cut = refl;
-    }
-
 module _ (ts : Tasks) (js : Jobs) (order : List ℕ) (speed : ℕ) (report : List ℕ) where
   -- an entry for a job that is over
-  pub over-broken : overEntriesZero ts js report ≡ false → record { lawful = false; outcome = atTickStart js speed } ≡ settledOf ts js order speed report
-  unfolding settledOf
+  pub over-broken : overEntriesZero ts js report ≡ false → refusedAs js speed ≡ settledOf ts js order speed report
+  unfolding settledOf refusedAs
   over-broken e = rw e
 
   -- none: the order decides

@@ -1,18 +1,19 @@
 -- What the private functions of this crate answer and ask: nothing here is part of what it promises to callers.
-use Prim.Native.Nat.{ℕ, _+_, _-_, _≤_, _<_, min}
+use Prim.Native.Nat.{ℕ, _-_, _≤_, _<_, min}
 use mathlib.Core.Path.{_≡_}
-use mathlib.Core.Bool.{true, false, cond, _&&_}
+use mathlib.Core.Bool.{Bool, true, false, cond, _&&_}
 use mathlib.Core.List.{List}
 use lib.Dec.{eqb, ltb, leb}
-use lib.ListN.{length, getD, set, take}
+use lib.ListN.{length, getD, take}
+use Rattle.units.specs.declared.Cycles.{Cycles}
 use Rattle.units.specs.Units.{cycles}
 use Rattle.rules.specs.declared.Tasks.{Tasks}
 use Rattle.rules.specs.declared.Job.{Job}
+use Rattle.rules.specs.declared.Jobs.{Jobs}
 use Rattle.rules.specs.declared.Order.{Order}
 use Rattle.rules.specs.declared.Settling.{Settling}
 use Rattle.rules.specs.Limits.{mostTasks}
-use Rattle.rules.specs.State.{jobAt, putAt}
-use Rattle.rules.specs.Settlement.{remaining, usesUp, allowed, granted, isCut, isOver, settleAt, settleAll, allAllowed}
+use Rattle.rules.specs.Settlement.{remaining, usesUp, allowed, granted, isCut, isOver, settleAll, allAllowed, atTickStart}
 use Rattle.settlement.specs.declared.shares.Share.{Share}
 use Rattle.settlement.specs.declared.Settled.{Settled}
 
@@ -46,41 +47,19 @@ pub record Placed (order : Order) : Type 0 where
   pub long : length (order .places) ≡ mostTasks
   pub below : (k : ℕ) → k < order .count → getD (order .places) k 0 < mostTasks
 
--- what is settled has its sixteen places, and nothing is cut yet at the tick's start
-pub record Long (sofar : Settling) : Type 0 where
-  pub runs : length (sofar .jobs .run) ≡ mostTasks
-  pub marks : length (sofar .jobs .over) ≡ mostTasks
-  pub grants : length (sofar .grants) ≡ mostTasks
-
-pub record Begun (sofar : Settling) : Type 0 where
-  pub long : Long sofar
-  pub none-cut : sofar .cut ≡ 0
-
--- one job settled, where its entry is allowed
-unfoldable pub turnOf : Tasks → ℕ → ℕ → Settling → Settled
-turnOf ts i u sofar =
-    let lawful = allowed (sofar .left .0) u (jobAt ts (sofar .jobs) i) in
-    record { lawful = lawful; outcome = cond lawful (settleAt ts i u sofar) sofar }
-
 -- an order settled, where each entry is allowed
 unfoldable pub settledFrom : Tasks → List ℕ → List ℕ → Settling → Settled
 settledFrom ts report order begun =
     let lawful = allAllowed ts report order begun in
-    record { lawful = lawful; outcome = cond lawful (settleAll ts report order begun) begun }
+    record { outcome = cond lawful (settleAll ts report order begun) begun; lawful = lawful }
 
--- what is settled with a job's part, and what keeps its sums in their range
-unfoldable pub given : Settling → ℕ → Job → Share → Settling
-given sofar i j part =
+-- the two ends of a settlement: no entry breaks rule 4 and this came of it, or one does and all is as at the tick's start
+unfoldable pub cameTo : List Cycles → List Bool → List Cycles → Cycles → ℕ → Settled
+cameTo run over grants left cut =
     record {
-      jobs = putAt (sofar .jobs) i (j .run .0 + part .given .0) (part .over);
-      grants = set (sofar .grants) i (part .given);
-      left = cycles (sofar .left .0 - part .given .0);
-      cut = sofar .cut + cond (part .cut) 1 0;
+      outcome = record { jobs = record { run = run; over = over }; grants = grants; left = left; cut = cut };
+      lawful = true;
     }
 
-pub record Gives (sofar : Settling) (i : ℕ) (j : Job) (part : Share) : Type 0 where
-  pub place : i < mostTasks
-  pub long : Long sofar
-  pub within-reserve : part .given .0 ≤ j .reserve .0 - j .run .0
-  pub within-left : part .given .0 ≤ sofar .left .0
-  pub few-cut : sofar .cut < mostTasks
+unfoldable pub refusedAs : Jobs → ℕ → Settled
+refusedAs js speed = record { outcome = atTickStart js speed; lawful = false }

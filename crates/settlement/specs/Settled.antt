@@ -12,4 +12,4 @@ unfoldable pub settledOf : Tasks → Jobs → List ℕ → ℕ → List ℕ → 
 settledOf ts js order speed report =
     let begun = atTickStart js speed in
     let lawful = overEntriesZero ts js report && allAllowed ts report order begun in
-    record { lawful = lawful; outcome = cond lawful (settleAll ts report order begun) begun }
+    record { outcome = cond lawful (settleAll ts report order begun) begun; lawful = lawful }

@@ -12,10 +12,10 @@ use rules::Settling;
 use rules::Tasks;
 use units::Speed;
 
-// A tick settled: whether no entry breaks rule 4, and what the settlement came to; where one breaks it, as at the tick's start.
+// A tick settled: what the settlement came to, and whether no entry breaks rule 4; where one breaks it, as at the tick's start.
 pub struct Settled {
-    pub lawful: bool,
     pub outcome: Settling,
+    pub lawful: bool,
 }
 
 // The tick of these tasks and jobs at a speed, settled by a report, in the order of the deadlines.
@@ -23,13 +23,9 @@ pub fn settle(tasks: Tasks, jobs: Jobs, dues: Dues, speed: Speed, report: &[u64]
     ensures { λ r.
         ⌜ r ≡ settledOf tasks jobs (orderIn dues jobs (tasks .count)) (speed .0) (now (report .entry)) ⌝ }
 {
-    let begun = turns::at_tick_start(jobs, speed);
     if !entries::over_entries_zero(tasks, jobs, report) {
-        return Settled {
-            lawful: false,
-            outcome: begun,
-        };
+        return turns::refused(jobs, speed);
     }
     let order = choosing::order_of(dues, jobs, tasks.count);
-    turns::settle_order(tasks, order, begun, report)
+    turns::settle_order(tasks, jobs, order, speed, report)
 }

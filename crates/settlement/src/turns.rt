@@ -1,12 +1,12 @@
-// Rule 4 over the whole order: what is settled so far, one job after the other.
+// Rule 4 over the whole order: the ready jobs settled one after the other, each in place.
 ghost use mathlib.Core.Path.{_≡_};
-ghost use Prim.Native.Nat.{_<_};
+ghost use Prim.Native.Nat.{_+_, _-_, _≤_};
+ghost use Rattle.units.specs.Units.{cycles};
 ghost use Rattle.rules.specs.Settlement.{atTickStart};
-ghost use Rattle.settlement.specs.Parts.{Placed, Begun, Long, Gives, orderList, settledFrom, turnOf, given};
+ghost use Rattle.settlement.specs.Parts.{Placed, orderList, settledFrom, refusedAs, cameTo};
 use crate::Settled;
 use crate::entries;
 use crate::shares;
-use crate::shares::Share;
 use rules::Job;
 use rules::Jobs;
 use rules::Order;
@@ -16,7 +16,7 @@ use units::Cycles;
 use units::Speed;
 
 // Rule 4: at the start of the settlement nothing is granted, and what is left is the tick's speed.
-pub(crate) fn at_tick_start(jobs: Jobs, speed: Speed) -> Settling
+fn at_tick_start(jobs: Jobs, speed: Speed) -> Settling
     ensures { λ r. ⌜ r ≡ atTickStart jobs (speed .0) ⌝ }
 {
     Settling {
@@ -27,83 +27,101 @@ pub(crate) fn at_tick_start(jobs: Jobs, speed: Speed) -> Settling
     }
 }
 
-// Rule 4: the ready jobs in this order, from what is settled at the tick's start; stopped at the first entry that breaks it.
-pub(crate) fn settle_order(tasks: Tasks, order: Order, begun: Settling, report: &[u64]) -> Settled
-    requires { ⌜ Placed order × Begun begun ⌝ }
-    ensures { λ r. ⌜ r ≡ settledFrom tasks (now (report .entry)) (orderList order) begun ⌝ }
+// An entry that breaks rule 4: all is as at the tick's start.
+pub(crate) fn refused(jobs: Jobs, speed: Speed) -> Settled
+    ensures { λ r. ⌜ r ≡ refusedAs jobs (speed .0) ⌝ }
+{
+    Settled {
+        outcome: at_tick_start(jobs, speed),
+        lawful: false,
+    }
+}
+
+// No entry that breaks rule 4: what the settlement came to.
+fn came_to(
+    run: [Cycles; 16],
+    over: [bool; 16],
+    grants: [Cycles; 16],
+    left: Cycles,
+    cut: u64,
+) -> Settled
+    ensures { λ r. ⌜ r ≡ cameTo run over grants left cut ⌝ }
+{
+    Settled {
+        outcome: Settling {
+            jobs: Jobs {
+                run: run,
+                over: over,
+            },
+            grants: grants,
+            left: left,
+            cut: cut,
+        },
+        lawful: true,
+    }
+}
+
+// Rule 4: the ready jobs in this order, from the tick's start; stopped at the first entry that breaks it.
+pub(crate) fn settle_order(
+    tasks: Tasks,
+    jobs: Jobs,
+    order: Order,
+    speed: Speed,
+    report: &[u64],
+) -> Settled
+    requires { ⌜ Placed order ⌝ }
+    ensures { λ r. ⌜ r ≡ settledFrom tasks (now (report .entry)) (orderList order) (atTickStart jobs (speed .0)) ⌝ }
 {
     let places = order.places;
     let n = order.count;
-    let mut sofar = begun;
+    let mut run = jobs.run;
+    let mut over = jobs.over;
+    let mut grants = [Cycles(0); 16];
+    let mut left = Cycles(speed.0);
+    let mut cut = 0;
     let mut k = 0;
     while k < n {
         let i = places[k];
-        let entry = entries::entry_at(report, i);
-        let step = turn(tasks, sofar, i, entry);
-        if !step.lawful {
-            return Settled {
-                lawful: false,
-                outcome: begun,
-            };
+        let period = tasks.periods[i];
+        let reserve = tasks.reserves[i];
+        let ran = run[i];
+        let mark = over[i];
+        let job = Job {
+            period: period,
+            reserve: reserve,
+            run: ran,
+            over: mark,
+        };
+        let part = shares::share_out(left, entries::entry_at(report, i), job);
+        if !part.allowed {
+            return refused(jobs, speed);
         }
-        sofar = step.outcome;
+        let share = part.given;
+        run[i] = raised(job, share);
+        over[i] = part.over;
+        grants[i] = share;
+        left = lowered(left, share);
+        if part.cut {
+            cut += 1;
+        }
         k += 1;
     }
-    Settled {
-        lawful: true,
-        outcome: sofar,
-    }
+    came_to(run, over, grants, left, cut)
 }
 
-// Rule 4: the ready job at place i settled with its entry, where that is allowed.
-fn turn(tasks: Tasks, sofar: Settling, i: usize, entry: u64) -> Settled
-    requires { ⌜ (i < 16) × Long sofar × (sofar .cut < 16) ⌝ }
-    ensures { λ r. ⌜ r ≡ turnOf tasks i entry sofar ⌝ }
+// A job's run count raised by what it gets, which its remaining reserve holds.
+fn raised(job: Job, share: Cycles) -> Cycles
+    requires { ⌜ share .0 ≤ job .reserve .0 - job .run .0 ⌝ }
+    ensures { λ r. ⌜ r ≡ cycles (job .run .0 + share .0) ⌝ }
 {
-    let jobs = sofar.jobs;
-    let job = rules::job_at(tasks, jobs, i);
-    let part = shares::share_out(sofar.left, entry, job);
-    if !part.allowed {
-        return Settled {
-            lawful: false,
-            outcome: sofar,
-        };
-    }
-    Settled {
-        lawful: true,
-        outcome: give(sofar, i, job, part),
-    }
-}
-
-// What is settled once the job at place i has its part.
-fn give(sofar: Settling, i: usize, job: Job, part: Share) -> Settling
-    requires { ⌜ Gives sofar i job part ⌝ }
-    ensures { λ r. ⌜ r ≡ given sofar i job part ⌝ }
-{
-    let jobs = sofar.jobs;
-    let mut run = jobs.run;
-    let mut over = jobs.over;
-    let mut grants = sofar.grants;
     let used = job.run;
-    let share = part.given;
-    let rest = sofar.left;
-    let ran = used.0;
-    let gets = share.0;
-    let left = rest.0;
-    run[i] = Cycles(ran + gets);
-    over[i] = part.over;
-    grants[i] = share;
-    let mut cut = sofar.cut;
-    if part.cut {
-        cut += 1;
-    }
-    Settling {
-        jobs: Jobs {
-            run: run,
-            over: over,
-        },
-        grants: grants,
-        left: Cycles(left - gets),
-        cut: cut,
-    }
+    Cycles(used.0 + share.0)
+}
+
+// What is left lowered by what a job gets, which it holds.
+fn lowered(left: Cycles, share: Cycles) -> Cycles
+    requires { ⌜ share .0 ≤ left .0 ⌝ }
+    ensures { λ r. ⌜ r ≡ cycles (left .0 - share .0) ⌝ }
+{
+    Cycles(left.0 - share.0)
 }

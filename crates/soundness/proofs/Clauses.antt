@@ -23,15 +23,15 @@ use Rattle.rules.proofs.Lists.{both-left, both-right, upTo-at, upTo-all, rest-a
 use Rattle.rules.proofs.Loads.{top-limit}
 use Rattle.rules.proofs.Ranges.{in-range, range-from, range-to}
 use Rattle.rules.proofs.Soundness.{Sound, sound-facts, facts-sound, length-speeds}
-use Rattle.places.specs.Places.{jobRight, jobsPast, tasksRight}
-use Rattle.places.proofs.PlaceLaws.{right-job, rest-decides}
+use Rattle.places.specs.Places.{jobRight, jobsPast}
+use Rattle.places.proofs.PlaceLaws.{right-job}
 use Rattle.rungs.specs.Rungs.{unusedRung, ladderRight, topIn}
 use Rattle.rungs.proofs.TopLaws.{top-is}
 use Rattle.tallies.specs.Tallies.{countedWithin, tallyRight}
 use Rattle.tallies.proofs.TallyLaws.{most-is}
 use Rattle.soundness.specs.Survey.{surveyOf, unsoundSurvey}
-use Rattle.soundness.specs.Parts.{sumsTo, greatTest, Summable}
-use Rattle.soundness.proofs.SumLaws.{period-in, reserve-in, run-in}
+use Rattle.soundness.specs.Parts.{sumsTo, tasksRight, greatTest}
+use Rattle.soundness.proofs.SumLaws.{period-in, reserve-in, run-in, jobs-decide}
 use Rattle.soundness.proofs.SumValues.{full-is, load-is, great-found, great-passes}
 
 -- the bound of the counts is t x top speed, for a top speed and a t that are allowed
@@ -54,8 +54,8 @@ module _ (s : State) (f : Sound s) where
   unfolding jobsOf jobsPast
   tasks-hold =
       sym
-      (rest-decides (s .tasks) (s .jobs) (f .tasks-some) (f .tasks-most) (upTo-all jobRight (s .tasks .count) (jobAt (s .tasks) (s .jobs)) job-holds))
-      ∙ rest-all unusedJob (s .tasks .count) mostTasks (jobAt (s .tasks) (s .jobs)) (f .unused-job)
+      (jobs-decide (s .tasks) (s .jobs) (f .tasks-some) (f .tasks-most) (f .great-most) (rest-all unusedJob (s .tasks .count) mostTasks (jobAt (s .tasks) (s .jobs)) (f .unused-job)))
+      ∙ upTo-all jobRight (s .tasks .count) (jobAt (s .tasks) (s .jobs)) job-holds
 
   -- the speed places past the count are unused
   rungs-hold : every (unusedRung (s .ladder) (s .tally)) (drop (s .ladder .count) (upTo mostSpeeds (λ i. i))) ≡ true
@@ -82,20 +82,36 @@ module _ (s : State) (f : Sound s) where
 
 -- what the tests of the tables give
 module _ (s : State) (t : tasksRight (s .tasks) (s .jobs) ≡ true) where
-  counted-used : (upToMost mostTasks (s .tasks .count) && every jobRight (jobsOf (s .tasks) (s .jobs))) ≡ true
+  -- the four parts of the test of the task side
+  abbrev many : Bool
+  many = upToMost mostTasks (s .tasks .count)
+
+  abbrev low : Bool
+  low = leb (s .tasks .great .0) mostGreat
+
+  abbrev past : Bool
+  past = every unusedJob (jobsPast (s .tasks) (s .jobs))
+
+  abbrev used : Bool
+  used = every jobRight (jobsOf (s .tasks) (s .jobs))
+
+  -- each of them holds, and says what it tests
+  before-used : (many && low && past) ≡ true
   unfolding tasksRight
-  counted-used =
-      both-left (upToMost mostTasks (s .tasks .count) && every jobRight (jobsOf (s .tasks) (s .jobs)))
-      (every unusedJob (jobsPast (s .tasks) (s .jobs))) t
+  before-used = both-left (many && low && past) used t
 
-  counted : upToMost mostTasks (s .tasks .count) ≡ true
-  counted = both-left (upToMost mostTasks (s .tasks .count)) (every jobRight (jobsOf (s .tasks) (s .jobs))) counted-used
+  before-past : (many && low) ≡ true
+  before-past = both-left (many && low) past before-used
 
-  jobs-right : every jobRight (jobsOf (s .tasks) (s .jobs)) ≡ true
-  jobs-right = both-right (upToMost mostTasks (s .tasks .count)) (every jobRight (jobsOf (s .tasks) (s .jobs))) counted-used
+  counted : many ≡ true
+  counted = both-left many low before-past
 
-  pub summable : s .tasks .great .0 ≤ mostGreat → Summable (s .tasks) (s .jobs)
-  summable g = record { few = range-to mostTasks (s .tasks .count) counted; small = g; right = jobs-right }
+  great-low : s .tasks .great .0 ≤ mostGreat
+  great-low = leb-true (s .tasks .great .0) mostGreat (both-right many low before-past)
+
+  jobs-right : used ≡ true
+  unfolding tasksRight
+  jobs-right = both-right (many && low && past) used t
 
   job-at : (i : ℕ) → i < s .tasks .count → jobRight (jobAt (s .tasks) (s .jobs) i) ≡ true
   unfolding jobsOf
@@ -110,10 +126,10 @@ module _ (s : State) (t : tasksRight (s .tasks) (s .jobs) ≡ true) where
   reserve-at i h = reserve-in (jobAt (s .tasks) (s .jobs) i) (job-at i h)
 
   past-unused : (i : ℕ) → s .tasks .count ≤ i → i < mostTasks → unusedJob (jobAt (s .tasks) (s .jobs) i) ≡ true
-  unfolding tasksRight jobsPast
+  unfolding jobsPast
   past-unused =
       rest-at unusedJob (s .tasks .count) mostTasks (jobAt (s .tasks) (s .jobs))
-      (both-right (upToMost mostTasks (s .tasks .count) && every jobRight (jobsOf (s .tasks) (s .jobs))) (every unusedJob (jobsPast (s .tasks) (s .jobs))) t)
+      (both-right (many && low) past before-used)
 
 module _ (s : State) (t : ladderRight (s .ladder) (s .tally) ≡ true) where
   -- the four parts of the test of the speed side
@@ -196,7 +212,6 @@ pub record Tests (s : State) : Type 0 where
   pub tasks : tasksRight (s .tasks) (s .jobs) ≡ true
   pub ladder : ladderRight (s .ladder) (s .tally) ≡ true
   pub tally : tallyRight (s .done) (s .tally) (topIn (s .ladder)) ≡ true
-  pub small : s .tasks .great .0 ≤ mostGreat
   pub great : greatTest (sumsTo (s .tasks) (s .jobs) (s .tasks .count)) ≡ true
   pub full : leb (sumsTo (s .tasks) (s .jobs) (s .tasks .count) .full .0) (topIn (s .ladder) .0 * s .tasks .great .0) ≡ true
 
@@ -225,7 +240,7 @@ tests-facts s t =
       speeds-rise = rise s (t .ladder);
       volts-never-fall = never-fall s (t .ladder);
       great-is = great-found (s .tasks) (s .jobs) (t .great);
-      great-most = t .small;
+      great-most = great-low s (t .tasks);
       admits = tests-admit s t;
       run-right = λ i h. run-in (jobAt (s .tasks) (s .jobs) i) (job-at s (t .tasks) i h);
       unused-job = past-unused s (t .tasks);

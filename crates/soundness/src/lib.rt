@@ -4,6 +4,7 @@ mod sums;
 ghost use mathlib.Core.Path.{_≡_};
 ghost use Rattle.soundness.specs.Survey.{surveyOf, unsoundSurvey};
 use rules::State;
+use sums::Summing;
 use units::Cycles;
 
 // Whether a state is sound, and its load where it is.
@@ -18,9 +19,9 @@ pub fn survey(state: State) -> Surveyed
 {
     let tasks = state.tasks;
     let jobs = state.jobs;
-    if !places::tasks_right(tasks, jobs) {
+    let Summing::Made(made) = sums::task_sums(tasks, jobs) else {
         return unsound();
-    }
+    };
     let ladder = state.ladder;
     let tally = state.tally;
     if !rungs::ladder_right(ladder, tally) {
@@ -31,14 +32,10 @@ pub fn survey(state: State) -> Surveyed
     if !tallies::tally_right(done, tally, top) {
         return unsound();
     }
-    let great = tasks.great;
-    if great.0 > 1000000 {
-        return unsound();
-    }
-    let made = sums::sums_of(tasks, jobs);
     if !sums::great_right(made) {
         return unsound();
     }
+    let great = tasks.great;
     let full = made.full;
     if !units::carries(top, great, full) {
         return unsound();

@@ -1,9 +1,12 @@
-// One walk over the tasks, H / P taken once for each: the sums of rules 7 and 2, and whether H is right.
+// One walk over the tasks, each tested and then added, H / P taken once for each: the sums of rules 7 and 2, and whether H is right.
 ghost use mathlib.Core.Path.{_≡_};
 ghost use Rattle.divisors.specs.Divisors.{gcdOf};
 ghost use Rattle.units.specs.Units.{cycles};
+ghost use Rattle.rules.specs.Words.{every};
+ghost use Rattle.rules.specs.State.{jobsOf};
 ghost use Rattle.rules.specs.Load.{useOf};
-ghost use Rattle.soundness.specs.Parts.{Room, Summable, withJob, sumsTo, greatTest};
+ghost use Rattle.places.specs.Places.{jobRight};
+ghost use Rattle.soundness.specs.Parts.{Room, Small, withJob, summing, tasksRight, greatTest};
 use rules::Job;
 use rules::Jobs;
 use rules::Tasks;
@@ -16,6 +19,12 @@ pub(crate) struct Sums {
     pub(crate) load: Cycles,
     pub(crate) common: u64,
     pub(crate) rest: Ticks,
+}
+
+// The sums of tasks that are all right, or a task that is not.
+pub(crate) enum Summing {
+    Made(Sums),
+    Wrong,
 }
 
 // Rule 2: a job's use is its reserve until it is over, and then the cycles it ran.
@@ -60,11 +69,15 @@ pub(crate) fn with_job(sums: Sums, job: Job, great: Ticks) -> Sums
     }
 }
 
-// The sums over all tasks.
-pub(crate) fn sums_of(tasks: Tasks, jobs: Jobs) -> Sums
-    requires { ⌜ Summable tasks jobs ⌝ }
-    ensures { λ r. ⌜ r ≡ sumsTo tasks jobs (tasks .count) ⌝ }
+// The sums over all tasks, each task tested first; or a task that is not right.
+pub(crate) fn sums_of(tasks: Tasks, jobs: Jobs) -> Summing
+    requires { ⌜ Small tasks ⌝ }
+    ensures { λ r. ⌜ r ≡ summing (every jobRight (jobsOf tasks jobs)) tasks jobs ⌝ }
 {
+    let periods = tasks.periods;
+    let reserves = tasks.reserves;
+    let run = jobs.run;
+    let over = jobs.over;
     let count = tasks.count;
     let great = tasks.great;
     let mut sums = Sums {
@@ -75,12 +88,41 @@ pub(crate) fn sums_of(tasks: Tasks, jobs: Jobs) -> Sums
     };
     let mut i = 0;
     while i < count {
-        let job = rules::job_at(tasks, jobs, i);
+        let job = Job {
+            period: periods[i],
+            reserve: reserves[i],
+            run: run[i],
+            over: over[i],
+        };
+        if !places::job_right(job) {
+            return Summing::Wrong;
+        }
         let next = with_job(sums, job, great);
         sums = next;
         i += 1;
     }
-    sums
+    Summing::Made(sums)
+}
+
+// No. 1, 3, 4 and 7, the runs of the current jobs, and zeros past them: the sums of a task side that is right.
+pub(crate) fn task_sums(tasks: Tasks, jobs: Jobs) -> Summing
+    ensures { λ r. ⌜ r ≡ summing (tasksRight tasks jobs) tasks jobs ⌝ }
+{
+    let count = tasks.count;
+    if count < 1 {
+        return Summing::Wrong;
+    }
+    if count > 16 {
+        return Summing::Wrong;
+    }
+    let great = tasks.great;
+    if great.0 > 1000000 {
+        return Summing::Wrong;
+    }
+    if !places::rest_unused(tasks, jobs) {
+        return Summing::Wrong;
+    }
+    sums_of(tasks, jobs)
 }
 
 // H is right: every period divides it, and the quotients have no common divisor but 1.

@@ -5,15 +5,19 @@ ghost use lib.Dec.{leb};
 ghost use Rattle.units.specs.Units.{cyclesIn};
 
 // A count of ticks, the clock's steps.
+#[repr(C)]
 pub struct Ticks(pub u64);
 
 // A count of cycles, in which work is measured.
+#[repr(C)]
 pub struct Cycles(pub u64);
 
 // A speed: cycles per tick.
+#[repr(C)]
 pub struct Speed(pub u64);
 
 // A voltage in whole tenths of a volt.
+#[repr(C)]
 pub struct Volts(pub u64);
 
 // The cycles that a speed makes in so many ticks; the largest count there is, where they are more than that.

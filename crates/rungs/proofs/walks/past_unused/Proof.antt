@@ -1,23 +1,27 @@
 -- `past_unused` tests every place from the count on: what is left to test from `i` on is the whole test.
 use borrow.Author.Needs.{needs}
-use mathlib.Core.Path.{_≡_, refl, sym, _∙_}
-use Prim.Native.Nat.{_-_}
+use mathlib.Core.Path.{_≡_, sym, ap, _∙_}
+use mathlib.Core.Logic.{⊎-elim}
+use Prim.Native.Nat.{_-_, max}
 use native.Mathlib.Omega.{arith}
 use Rattle.rules.specs.Limits.{mostSpeeds}
 use Rattle.rungs.specs.Parts.{zerosFrom}
 use Rattle.rules.proofs.Answers.{passed, failed}
-use Rattle.rungs.proofs.RungLaws.{past-on, past-stop, past-end}
+use Rattle.rungs.proofs.RungLaws.{past-used, past-on, past-stop, past-end}
 use Rattle.rungs.proofs.walks.past_unused.Statement.{statement}
 use Rattle.rungs.proofs.walks.past_unused.Tie as tie
 
 abbrev Inv-loop : tie.InvT-loop
-Inv-loop speeds volts counts i₀ i = zerosFrom speeds volts counts i₀ ≡ zerosFrom speeds volts counts i
+Inv-loop count speeds volts counts i₀ i = zerosFrom speeds volts counts count ≡ zerosFrom speeds volts counts (max i count)
 
 abbrev μ-loop : tie.MeasureT-loop
-μ-loop speeds volts counts i₀ i = mostSpeeds - i
+μ-loop count speeds volts counts i₀ i = mostSpeeds - i
 
 loop-holds : tie.Need-loop-holds Inv-loop μ-loop
-loop-holds c = refl
+loop-holds c =
+    let l = c .before .before .before .args .ladder in
+    let e : l .count ≡ max 0 (l .count) = omega arith in
+    ap (zerosFrom (l .speeds) (l .volts) (c .before .before .before .args .tally .counts)) e
 
 mul-unused-rung : tie.Need-mul-unused-rung Inv-loop μ-loop
 mul-unused-rung c = omega arith
@@ -42,9 +46,10 @@ unused-rung-requires c κs = search needs
 
 returns : tie.Need-returns Inv-loop μ-loop
 returns c =
-    let t = c .before .before .before .before .before in
+    let u = c .before .before .before .before .before in
+    let t = u .before in
     let w = t .before .loop in
-    sym (w .inv ∙ past-stop _ _ _ (w .i) (t .loop-test .taken) (failed (c .before .unused-rung .ensures) (c .if1 .taken)))
+    sym (w .inv ∙ past-stop _ _ _ _ (w .i) (t .loop-test .taken) (u .if1 .taken) (failed (c .before .unused-rung .ensures) (c .if2 .taken)))
 
 add-i : tie.Need-add-i Inv-loop μ-loop
 add-i c = omega arith
@@ -54,14 +59,18 @@ loop-less c = omega arith
 
 loop-again : tie.Need-loop-again Inv-loop μ-loop
 loop-again c =
-    let t = c .before .before .before .before .before in
+    let t = c .before in
     let w = t .before .loop in
-    w .inv ∙ past-on _ _ _ (w .i) (t .loop-test .taken) (passed (c .before .unused-rung .ensures) (c .if1 .left))
+    w .inv
+    ∙ ⊎-elim
+    (λ p. past-on _ _ _ _ (w .i) (t .loop-test .taken) (p .0 .taken) (passed (p .4 .ensures) (p .5 .left)))
+    (λ q. past-used _ _ _ _ (w .i) (q .left))
+    (c .if1 .came)
 
 returns-2 : tie.Need-returns-2 Inv-loop μ-loop
 returns-2 c =
     let w = c .before .loop in
-    sym (w .inv ∙ past-end _ _ _ (w .i) (c .loop-test .left))
+    sym (w .inv ∙ past-end _ _ _ _ (w .i) (c .loop-test .left))
 
 pub past-unused-spec : {M : Type 1} → statement M
 past-unused-spec =

@@ -5,8 +5,8 @@ use Rattle.rules.specs.declared.Job.{Job}
 use Rattle.rules.specs.Limits.{mostPeriod, mostReserve, upToMost}
 use Rattle.rules.proofs.Ranges.{in-range, too-low, too-high}
 use Rattle.places.proofs.PlaceLaws.{period-out, reserve-out, over-low, over-right, ready-right}
-use Rattle.places.proofs.walks.job_right.Statement.{statement}
-use Rattle.places.proofs.walks.job_right.Tie as tie
+use Rattle.places.proofs.job_right.Statement.{statement}
+use Rattle.places.proofs.job_right.Tie as tie
 
 -- the job, once its period has been looked at
 abbrev job : tie.Else2 → Job
