@@ -2,4 +2,5 @@
 // so a call's two results are equal only because its contract allows no other.
 mod calls;
 mod divisions;
+mod exported;
 mod parts;

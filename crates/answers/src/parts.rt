@@ -27,11 +27,6 @@ pub(crate) struct TwoTests {
     pub(crate) second: bool,
 }
 
-pub(crate) struct TwoJobs {
-    pub(crate) first: Job,
-    pub(crate) second: Job,
-}
-
 pub(crate) struct TwoVerdicts {
     pub(crate) first: Verdict,
     pub(crate) second: Verdict,
@@ -92,15 +87,6 @@ pub(crate) fn carries(speed: Speed, ticks: Ticks, load: Cycles) -> TwoTests
     TwoTests {
         first: units::carries(speed, ticks, load),
         second: units::carries(speed, ticks, load),
-    }
-}
-
-pub(crate) fn job_at(tasks: Tasks, jobs: Jobs, i: usize) -> TwoJobs
-    ensures { λ r. ⌜ r .first ≡ r .second ⌝ }
-{
-    TwoJobs {
-        first: rules::job_at(tasks, jobs, i),
-        second: rules::job_at(tasks, jobs, i),
     }
 }
 
@@ -173,12 +159,21 @@ pub(crate) fn settle(
     }
 }
 
-pub(crate) fn tasks_right(tasks: Tasks, jobs: Jobs) -> TwoTests
+pub(crate) fn job_right(job: Job) -> TwoTests
     ensures { λ r. ⌜ r .first ≡ r .second ⌝ }
 {
     TwoTests {
-        first: places::tasks_right(tasks, jobs),
-        second: places::tasks_right(tasks, jobs),
+        first: places::job_right(job),
+        second: places::job_right(job),
+    }
+}
+
+pub(crate) fn rest_unused(tasks: Tasks, jobs: Jobs) -> TwoTests
+    ensures { λ r. ⌜ r .first ≡ r .second ⌝ }
+{
+    TwoTests {
+        first: places::rest_unused(tasks, jobs),
+        second: places::rest_unused(tasks, jobs),
     }
 }
 
