@@ -21,7 +21,7 @@ const fn kind(name: &'static str, rounds: usize, play: fn(&mut Random, usize, &m
 }
 
 /// Every kind.
-pub const KINDS: [Kind; 18] = [
+pub const KINDS: [Kind; 19] = [
     kind(
         "start: every four lengths from 0 to 20",
         441,
@@ -44,6 +44,7 @@ pub const KINDS: [Kind; 18] = [
     ),
     kind("start: nonsense", 60_000, starts::nonsense),
     kind("runs with refused ticks between", 500, runs::from_the_start),
+    kind("long runs with refused ticks between", 20, runs::long),
     kind(
         "runs up to 1,000,000,000 ticks done",
         300,

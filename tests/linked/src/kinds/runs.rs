@@ -34,6 +34,13 @@ pub fn from_the_start(random: &mut Random, _: usize, desk: &mut Desk) {
     run(random, state, 300, desk);
 }
 
+/// A long run of an admitted table.
+pub fn long(random: &mut Random, _: usize, desk: &mut Desk) {
+    let (tasks, speeds) = tables::sizes(random);
+    let fresh = states::fresh(&tables::small(random, tasks, speeds));
+    run(random, fresh, 10_000, desk);
+}
+
 /// A run that begins near its end, up to number 10 and some calls past it.
 pub fn to_the_longest(random: &mut Random, _: usize, desk: &mut Desk) {
     let (tasks, speeds) = tables::sizes(random);
