@@ -20,7 +20,7 @@ use Rattle.rules.specs.declared.Settling.{Settling}
 use Rattle.rules.specs.Words.{upTo, total}
 use Rattle.rules.specs.State.{countAt}
 use Rattle.rules.specs.Counting.{counted}
-use Rattle.rules.proofs.Lists.{length-upTo, upTo-rest, upTo-end, upTo-ext, upTo-getD, upTo-set}
+use Rattle.rules.proofs.Lists.{upTo-rest, upTo-end, upTo-ext, upTo-getD, upTo-set}
 use Rattle.governor.specs.Parts.{Countable, past64}
 
 -- rule 5
@@ -84,10 +84,6 @@ module _ (shares : List Cycles) (grants : List ℕ) where
       sym (upTo-getD grants (length grants) 0 refl)
       ∙ upTo-ext (length grants) _ _
       (λ k l. sym (ap (λ b. cond b (getD shares k (cycles 0) .0) (getD grants k 0)) (le-ltb k 0 (omega arith))))
-
-  pub written-length : (i : ℕ) → length (written shares grants i) ≡ length grants
-  unfolding written
-  written-length i = length-upTo (length grants) _
 
   pub written-on : (i : ℕ) → i < length grants → set (written shares grants i) i (getD shares i (cycles 0) .0) ≡ written shares grants (i + 1)
   unfolding written

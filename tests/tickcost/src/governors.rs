@@ -1,6 +1,7 @@
 //! The governors that are measured, each with one loop that only plays prepared reports.
 
 use crate::shapes::Table;
+use linked::linked as library;
 use piszczalin::raw;
 
 /// What every governor's state tells.
@@ -61,19 +62,8 @@ fn measured_library(mut state: raw::State, reports: &[u64], grants: &mut [u64]) 
 
 impl Library {
     fn start(table: &Table) -> Library {
-        // SAFETY: each list is as long as told.
-        let started = unsafe {
-            raw::piszczalin_start(
-                table.periods.as_ptr(),
-                table.periods.len(),
-                table.reserves.as_ptr(),
-                table.reserves.len(),
-                table.speeds.as_ptr(),
-                table.speeds.len(),
-                table.volts.as_ptr(),
-                table.volts.len(),
-            )
-        };
+        let lists = [&table.periods, &table.reserves, &table.speeds, &table.volts];
+        let started = library::start(&lists.map(Clone::clone));
         assert_eq!(started.number, 0, "the library admits the table");
         Library(started.state)
     }
@@ -93,16 +83,7 @@ impl Governor for Library {
     }
 
     fn tick(&mut self, report: &[u64], grants: &mut [u64]) -> u64 {
-        // SAFETY: both lists are as long as told, and the marks of a `raw::State` are bools.
-        let ticked = unsafe {
-            raw::piszczalin_tick(
-                self.0,
-                report.as_ptr(),
-                report.len(),
-                grants.as_mut_ptr(),
-                grants.len(),
-            )
-        };
+        let ticked = library::tick(self.0, report, grants);
         self.0 = ticked.state;
         ticked.number
     }
