@@ -34,6 +34,9 @@ fn every_byte_comes_back() {
     bytes[MARKS].copy_from_slice(&[1, 0, 0, 1, 1, 0, 1, 0, 0, 0, 1, 1, 1, 0, 0, 1]);
     let state = State::from_bytes(&bytes).expect("marks of 0 and 1");
     assert_eq!(state.to_bytes(), bytes);
+    // SAFETY: the struct has as many bytes and no padding; the header copies it as it lies in memory
+    let memory: [u8; State::BYTES] = unsafe { core::mem::transmute(*state.as_raw()) };
+    assert_eq!(memory, bytes);
     assert_eq!(state.energy(), Err(Refusal::Unsound));
 }
 
