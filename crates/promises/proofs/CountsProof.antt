@@ -17,7 +17,7 @@ use Rattle.rules.proofs.CallRows.{energy-accepted}
 use Rattle.promises.specs.Runs.{Table, Call, Step, started, after, steps, grantsTo, entriesOf, granted, sumTo}
 use Rattle.promises.specs.Counts.{grantedAt, voltsBeside, cutJob, CountsComeFromTheGrants}
 use Rattle.promises.proofs.RunLaws.{keeps-all}
-use Rattle.promises.proofs.Sums.{sum-zero, sum-same}
+use Rattle.ontime.proofs.Sums.{sum-zero, sum-same}
 use Rattle.promises.proofs.SoundRuns.{SoundAndShaped, sound-next, sound-start, ticks-done}
 use Rattle.promises.proofs.Tallies.{all-within, counts-run, idle-run}
 use Rattle.promises.proofs.TallyEnergy.{ladderVolts, stepEnergy, energy-run}

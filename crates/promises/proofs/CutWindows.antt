@@ -16,7 +16,7 @@ use Rattle.rules.proofs.Totals.{total-places, total-last}
 use Rattle.promises.specs.Runs.{sumTo}
 use Rattle.promises.specs.ExactCycles.{windowOf, finishes}
 use Rattle.promises.specs.Counts.{cutJob}
-use Rattle.promises.proofs.Sums.{sum-zero, sum-same}
+use Rattle.ontime.proofs.Sums.{sum-zero, sum-same}
 use Rattle.promises.proofs.Portions.{Portion, cutNow, tick-finds}
 use Rattle.promises.proofs.Windows.{NothingMore, finishes-0, finishes-u, nothing-before, window-first, window-later, window-past}
 

@@ -17,10 +17,10 @@ use Rattle.rules.proofs.Fresh.{period-laid}
 use Rattle.promises.specs.Runs.{Table, Call, Step, started, after, stepOf, steps, grantsTo, entriesOf, sumTo}
 use Rattle.promises.specs.PaperLoad.{useBy, LoadIsByTheReports}
 use Rattle.promises.proofs.RunLaws.{next, Taken, by-steps}
-use Rattle.promises.proofs.Sums.{sum-same}
+use Rattle.ontime.proofs.Sums.{sum-same}
 use Rattle.promises.proofs.StartLaws.{started-is, tasks-few, tasks-count}
 use Rattle.promises.proofs.SoundRuns.{SoundAndShaped, sound-next, sound-start, same-tasks}
-use Rattle.promises.proofs.TickBooks.{load-sum}
+use Rattle.promises.proofs.PlainCourse.{load-sum}
 use Rattle.promises.proofs.StepPlaces.{OfJob, Onward, go-some, fresh-onward, step-portion, tick-first}
 use Rattle.promises.proofs.UseWindows.{UseToCome, uses-by, uses-none, uses-on, uses-due}
 

@@ -22,7 +22,7 @@ use Rattle.rules.proofs.Orders.{order-below, order-ready}
 use Rattle.rules.proofs.Sorted.{Before, AheadOf, InOrder, by-deadline}
 use Rattle.rules.proofs.CallRows.{now-accepted}
 use Rattle.promises.specs.PaperTest.{LowestThatCarries, LowestSpeedIsTold, Earliest, ChoiceIs, EarliestDeadlineIsTold}
-use Rattle.promises.proofs.Levels.{order-has}
+use Rattle.ontime.proofs.Levels.{order-has}
 
 -- where now answers 0 the state is sound, and it tells the speed and the choice of rule 3
 module _ (s : State) (e : nowOf s .number ≡ 0) where

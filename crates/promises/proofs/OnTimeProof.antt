@@ -1,6 +1,7 @@
 -- Never late: a fresh start is covered, each job having a whole period, and each accepted tick keeps the invariant. By induction on the accepted ticks.
 use mathlib.Core.Path.{_≡_, refl, ap, _∙_}
 use mathlib.Core.Bool.{false}
+use mathlib.Core.Logic.{inl, inr}
 use mathlib.Core.List.{List}
 use Prim.Native.Nat.{ℕ, _+_, _<_}
 use native.Mathlib.Nat.{zero-mod, le-trans, le-of-eq}
@@ -8,38 +9,24 @@ use native.Mathlib.Omega.{arith}
 use Rattle.units.specs.declared.Cycles.{Cycles}
 use Rattle.rules.specs.declared.Job.{Job}
 use Rattle.rules.specs.declared.State.{State}
-use Rattle.rules.specs.State.{jobAt}
+use Rattle.rules.specs.State.{periodAt, jobAt}
 use Rattle.rules.specs.Load.{deadline}
-use Rattle.rules.specs.Choice.{speedPlace, speedOf}
+use Rattle.rules.specs.Choice.{deadlineAt, speedPlace, speedOf}
 use Rattle.rules.specs.Calls.{freshTally, freshState}
 use Rattle.rules.proofs.Loads.{speed-enough}
+use Rattle.rules.proofs.GreatLaws.{great-whole}
 use Rattle.rules.proofs.Fresh.{run-fresh, over-fresh}
 use Rattle.rules.proofs.Keeps.{all-allowed}
 use Rattle.promises.specs.Runs.{Table, Call, Step, Each, started, after, steps, stepOf}
 use Rattle.promises.specs.NeverLate.{OverAtRelease, NeverLateInAnyRun, Covered, TasksRight, OnCourse, FreshStartIsOnCourse, OnTime, AnyTickThatCarriesTheLoad}
 use Rattle.promises.proofs.RunLaws.{Taken, next, tests-passed, step-speed, by-steps}
-use Rattle.promises.proofs.Sums.{sum-same}
+use Rattle.ontime.proofs.Sums.{sum-zero}
 use Rattle.promises.proofs.StartLaws.{freshOf, started-is}
 use Rattle.promises.proofs.SoundRuns.{SoundAndShaped, sound-next, sound-start}
 use Rattle.promises.proofs.Invariant.{Kept}
-use Rattle.promises.proofs.Renews.{fresh-room}
-use Rattle.promises.proofs.TickBooks.{owing, rooms, is-covered, job-whole, over-then, late-stays, covered-then, right-then}
-
--- Any tick that keeps rule 4, at a speed that carries the load wherever a job is ready.
-pub any-tick : AnyTickThatCarriesTheLoad
-unfolding AnyTickThatCarriesTheLoad
-any-tick s course place speed report lawful fast =
-    let r = course .tasks-right in
-    let c = course .covered in
-    let allowed = all-allowed s speed report lawful in
-    record {
-      over-at-release = over-then s r c speed report allowed fast;
-      none-late = late-stays s r c speed report allowed fast place;
-      stays = record {
-        tasks-right = right-then s r c speed report allowed fast place;
-        covered = covered-then s r c speed report allowed fast place;
-      };
-    }
+use Rattle.promises.proofs.PlainCourse.{courseOf, covered-is, any-tick}
+use Rattle.ontime.specs.OnTime.{Course, CoveredFrom, GoesOn, Closed, counts, owes, ReleasesKeep}
+use Rattle.ontime.proofs.Theorems.{releases}
 
 -- the tasks of a sound state are right
 sound-right : (s : State) → SoundAndShaped s → TasksRight s
@@ -73,19 +60,32 @@ module _ (table : Table) (e : started table .number ≡ 0) where
   unfolding jobAt freshState
   not-over i h = over-fresh i (le-trans h (fresh-right .few))
 
-  room-fresh : (d i : ℕ) → i < freshOf table .tasks .count → owing (freshOf table) (freshOf table .jobs) d i ≡ rooms (freshOf table) (freshOf table .jobs) 0 d i
-  unfolding freshState
-  room-fresh d i h =
-      let j : Job = jobAt (freshOf table .tasks) (freshOf table .jobs) i in
-      fresh-room (freshOf table .tasks .great .0) 0 d j
-      (job-whole (freshOf table) fresh-right (freshOf table .jobs) i h) (first-deadline j) (not-run i h) (not-over i h)
+  -- a fresh start is one at which every task joins, where there was none
+  before : Course
+  before = record { tasks = freshOf table .tasks; jobs = freshOf table .jobs; places = freshOf table .tasks .count; held = λ i. false; tick = 0; due = λ i. 0 }
+
+  joins : (i : ℕ) → i < freshOf table .tasks .count → GoesOn before (freshOf table .jobs) (courseOf (freshOf table)) i
+  unfolding GoesOn Closed before deadlineAt freshState
+  joins i h =
+      inr (
+        inl refl,
+        inl (record {
+          due-is = first-deadline (jobAt (freshOf table .tasks) (freshOf table .jobs) i);
+          run-is = not-run i h;
+          not-over = not-over i h;
+          whole = unfold jobAt periodAt in great-whole (freshOf table) (fresh-right .great-is) i h;
+        }),
+      )
+
+  none-yet : CoveredFrom before (freshOf table .jobs) 0
+  unfolding CoveredFrom counts owes before
+  none-yet d = omega (arith, sum-zero (λ i. 0) (freshOf table .tasks .count) (λ i l. refl))
 
   fresh-is-covered : Covered (freshOf table)
-  unfolding freshState
+  unfolding ReleasesKeep before freshState
   fresh-is-covered =
-      is-covered (freshOf table)
-      (λ d. le-of-eq
-      (sum-same (owing (freshOf table) (freshOf table .jobs) d) (rooms (freshOf table) (freshOf table .jobs) 0 d) (freshOf table .tasks .count) (room-fresh d)))
+      rw (covered-is (freshOf table))
+      (releases before (freshOf table .jobs) (courseOf (freshOf table)) refl refl joins none-yet)
 
   pub kept-start : Kept (started table .state)
   kept-start = record { base = sound-start table e; covered = rw (started-is table e) fresh-is-covered }

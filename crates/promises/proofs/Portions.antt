@@ -26,8 +26,8 @@ use Rattle.rules.proofs.Settles.{Settles}
 use Rattle.rules.proofs.Keeps.{jobs-right, over-zeros, all-allowed, settles-start}
 use Rattle.rules.proofs.Soundness.{Sound}
 use Rattle.promises.specs.Runs.{sumTo}
-use Rattle.promises.proofs.Sums.{sum-none, sum-same}
-use Rattle.promises.proofs.Levels.{order-has}
+use Rattle.ontime.proofs.Sums.{sum-none, sum-same}
+use Rattle.ontime.proofs.Levels.{order-has}
 use Rattle.promises.proofs.SettledPlaces.{grantAt, none-granted, absent, job-kept, grant-kept, Turn, walk-turn, walk-cut}
 
 -- entry u and grant g take the job j to the job k

@@ -7,7 +7,8 @@ use Rattle.promises.specs.PaperLoad.{LoadIsByTheReports}
 use Rattle.promises.specs.Counts.{CountsComeFromTheGrants}
 use Rattle.promises.specs.StaysSound.{EveryRunStaysSound}
 use Rattle.promises.specs.EitherSide.{EitherSideOfTheLine}
-use Rattle.promises.proofs.OnTimeProof.{fresh-on-course, any-tick, in-any-run}
+use Rattle.promises.proofs.OnTimeProof.{fresh-on-course, in-any-run}
+use Rattle.promises.proofs.PlainCourse.{any-tick}
 use Rattle.promises.proofs.ExactProof.{exactly-the-cycles}
 use Rattle.promises.proofs.Starves.{some-job-starves}
 use Rattle.promises.proofs.Fractions.{figure-1, start-tests, figure-4}

@@ -23,7 +23,7 @@ use Rattle.rules.proofs.Lists.{getD-upTo, every-first, every-rest}
 use Rattle.rules.proofs.Stores.{withRun}
 use Rattle.rules.proofs.Shares.{settledJob}
 use Rattle.rules.proofs.Settles.{Settles, job-here, job-elsewhere, grant-here, grant-elsewhere, first-below, first-ready, first-once, settles-job, allowed-first, allowed-rest}
-use Rattle.promises.proofs.Levels.{mem-rest}
+use Rattle.ontime.proofs.Levels.{mem-rest}
 
 -- what is granted to the task at a place so far
 abbrev pub grantAt : Settling → ℕ → ℕ

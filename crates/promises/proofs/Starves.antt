@@ -21,7 +21,7 @@ use Rattle.rules.proofs.Totals.{total-places}
 use Rattle.rules.proofs.Loads.{total-most}
 use Rattle.promises.specs.Runs.{started, sumTo}
 use Rattle.promises.specs.TurnedAway.{HandOut, WithinTopSpeed, gets, TurnedAwayForLoad}
-use Rattle.promises.proofs.Sums.{sum-const, sum-below, sum-swap, sum-windows}
+use Rattle.ontime.proofs.Sums.{sum-const, sum-below, sum-swap, sum-windows}
 
 -- the last row holds where its number, not 0, is the answer
 last-holds : (b : Bool) (answer : ℕ) → 0 < answer → firstOf ((b, answer) ∷ []) ≡ answer → b ≡ true

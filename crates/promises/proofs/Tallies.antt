@@ -27,7 +27,7 @@ use Rattle.rules.proofs.Loads.{place-below, speed-of-at, speed-order}
 use Rattle.promises.specs.Runs.{Call, Step, Each, stepOf, steps, after, granted}
 use Rattle.promises.specs.Counts.{grantedAt}
 use Rattle.promises.proofs.RunLaws.{outcome, next, Taken, step-speed, step-grants, by-steps}
-use Rattle.promises.proofs.Sums.{sum-short}
+use Rattle.ontime.proofs.Sums.{sum-short}
 use Rattle.promises.proofs.SettledPlaces.{grantAt, none-granted, grant-kept}
 use Rattle.promises.proofs.SoundRuns.{SoundAndShaped, sound-next}
 

@@ -10,7 +10,7 @@ use Rattle.rules.specs.Counting.{counted, nextOf}
 use Rattle.rules.proofs.Places.{run-below}
 use Rattle.promises.specs.Runs.{Call, Step, stepOf, steps, after, grantsTo, entriesOf, sumTo}
 use Rattle.promises.proofs.RunLaws.{next, Taken, tests-passed, by-steps}
-use Rattle.promises.proofs.Sums.{sum-zero, sum-add}
+use Rattle.ontime.proofs.Sums.{sum-zero, sum-add}
 use Rattle.promises.proofs.Portions.{cutAt, cut-is}
 use Rattle.promises.proofs.SoundRuns.{SoundAndShaped, sound-next}
 use Rattle.promises.proofs.StepPlaces.{OfJob, Onward, step-portion, tick-first}

@@ -22,7 +22,7 @@ use Rattle.rules.proofs.Soundness.{Sound}
 use Rattle.rules.proofs.Loads.{place-below, speeds-at, volts-at, in-speeds}
 use Rattle.promises.specs.Runs.{Call, Step, stepOf, steps, after, granted}
 use Rattle.promises.proofs.RunLaws.{next, Taken, by-steps}
-use Rattle.promises.proofs.Sums.{sum-change}
+use Rattle.ontime.proofs.Sums.{sum-change}
 use Rattle.promises.proofs.SoundRuns.{SoundAndShaped, sound-next}
 use Rattle.promises.proofs.Tallies.{count-here, count-elsewhere, step-speed-at}
 

@@ -6,7 +6,7 @@ use native.Mathlib.Decide.{ℕ-discrete, decLt}
 use native.Mathlib.Omega.{arith}
 use Rattle.rules.specs.Words.{upTo, total}
 use Rattle.rules.proofs.Totals.{total-last}
-use Rattle.promises.specs.Runs.{sumTo}
+use Rattle.ontime.specs.OnTime.{sumTo}
 
 module _ (f : ℕ → ℕ) where
   pub sum-none : sumTo 0 f ≡ 0

@@ -1,0 +1,7 @@
+pub mod Sums
+pub mod Levels
+pub mod OneJob
+pub mod Pays
+pub mod GoesOnProof
+pub mod Multiples
+pub mod Theorems
