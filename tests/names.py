@@ -1,0 +1,80 @@
+#!/usr/bin/env python3
+"""Holds the docs to the files: what they name in backquotes is there, and docs/PROMISES.md names every must-fail edit.
+
+    python3 tests/names.py
+
+Looked up are paths, edits ('crate/name'; under a heading or in a table of one crate, 'name' alone), and words that look
+like a name of the code: with a capital inside, a hyphen, an underscore, '::' or '.'. Other words in backquotes are passed
+over. The last line counts what is not there.
+"""
+
+import pathlib
+import re
+import sys
+
+ROOT = pathlib.Path(__file__).resolve().parent.parent
+PAGES = [ROOT / "README.md", *sorted((ROOT / "docs").rglob("*.md"))]
+SOURCES = ["crates/*/src/**/*", "crates/*/specs/**/*", "crates/*/proofs/**/*", "include/*", "wrapper/src/*", "wrapper/tests/*",
+           "second/src/*", "second/tests/**/*", "tests/*", "tests/*/*", "tests/*/src/**/*", "examples/**/*"]
+WORD = re.compile(r"[^\W\d][\w'-]*", re.UNICODE)
+NAME = re.compile(r"[A-Za-z][\w-]*(?:(?:::|\.)[A-Za-z][\w-]*)*")
+
+
+def files():
+    return {path for pattern in SOURCES for path in ROOT.glob(pattern) if path.is_file() and "target" not in path.parts}
+
+
+def looks_like_code(name):
+    return bool(re.search(r"[a-z][A-Z]|[A-Z][a-z]+[A-Z]|[A-Za-z]-[A-Za-z]|_|::|\w\.\w", name))
+
+
+def there(path):
+    """Whether a path is one of the repository, of a crate, or made by a build; a file of antt may lack its ending."""
+    return path.startswith("target") or any(any(ROOT.glob(where + path + end)) for where in ("", "crates/*/") for end in ("", ".antt"))
+
+
+def main():
+    edits = {(path.parts[-3] if path.parts[-2] == "must-fail" else path.parts[-4], path.stem)
+             for path in ROOT.glob("crates/*/must-fail/**/*.edit")}
+    labels = {label for _, label in edits}
+    sources = files()
+    words = {word for path in sources for word in WORD.findall(path.read_text(errors="replace"))}
+    words |= {path.stem for path in sources} | {path.name for path in sources} | {path.name for path in (ROOT / "crates").iterdir()}
+    missing = 0
+
+    def tell(page, number, name):
+        nonlocal missing
+        missing += 1
+        print(f"{page.relative_to(ROOT)}:{number}: `{name}` is not there")
+
+    for page in PAGES:
+        code = False
+        for number, line in enumerate(page.read_text().splitlines(), 1):
+            code ^= line.startswith("```")
+            if code or line.startswith("    "):
+                continue
+            for span in re.findall(r"`([^`]+)`", line):
+                pair = re.fullmatch(r"(\w+)/(\w+)", span)
+                if pair and (ROOT / "crates" / pair[1]).is_dir():
+                    if pair.groups() not in edits and not (ROOT / span).exists():
+                        tell(page, number, span)
+                elif re.fullmatch(r"[\w-]+(/[\w*-][\w.*-]*)+/?", span):
+                    if not there(span.rstrip("/")):
+                        tell(page, number, span)
+                elif NAME.fullmatch(span) and looks_like_code(span):
+                    for part in re.split(r"::|\.", span):
+                        if part not in words and part not in labels:
+                            tell(page, number, span)
+                            break
+
+    named = set(WORD.findall((ROOT / "docs/PROMISES.md").read_text()))
+    for crate, label in sorted(edits):
+        if label not in named:
+            missing += 1
+            print(f"docs/PROMISES.md: the edit {crate}/{label} is not named")
+    print(f"{len(PAGES)} pages and {len(edits)} edits, {missing} names that are not there")
+    return 1 if missing else 0
+
+
+if __name__ == "__main__":
+    sys.exit(main())
