@@ -9,12 +9,14 @@ mod governor;
 mod numbers;
 mod play;
 mod runfile;
+mod state;
 mod table;
 mod text;
 
-pub use governor::{energy, now, sound, start, tick, State};
+pub use governor::{energy, now, start, tick};
 pub use numbers::{greatest_common_divisor, least_common_multiple};
 pub use play::{play, Ending, Played, Watch};
 pub use runfile::{RunFile, LONGEST_TEXT};
+pub use state::{sound, State};
 pub use table::{GREATEST_PERIOD, LONGEST_RUN, SPEEDS, TASKS};
 pub use text::bench;

@@ -1,8 +1,9 @@
 //! Playing a run: ticks and their end, apart from any text.
 
 use crate::course::Course;
-use crate::governor::{start, State};
+use crate::governor::start;
 use crate::runfile::RunFile;
+use crate::state::State;
 use crate::table::TASKS;
 
 pub use crate::course::Settled as Played;

@@ -1,8 +1,8 @@
 //! The bench's text.
 
-use crate::governor::State;
 use crate::play::{play, Ending, Played, Watch};
 use crate::runfile::RunFile;
+use crate::state::State;
 use crate::table::TASKS;
 
 /// What the bench prints for any bytes.

@@ -92,7 +92,7 @@ fn plain_tick(state: &State, report: &[u64]) -> Option<(State, Vec<u64>)> {
     next.counts[level] += grants.iter().sum::<u64>();
     next.idle += left;
     next.t += 1;
-    for i in (0..n).filter(|&i| next.t.is_multiple_of(state.periods[i])) {
+    for i in (0..n).filter(|&i| next.t % state.periods[i] == 0) {
         next.late += u64::from(!next.over[i]);
         next.run[i] = 0;
         next.over[i] = false;
