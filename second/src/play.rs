@@ -36,7 +36,7 @@ pub fn play(file: &RunFile, watch: &mut impl Watch) -> Ending {
     for t in 0..file.ticks {
         let mut finishes = 0;
         while finishes < ends.len() && ends[finishes].tick == t {
-            report[ends[finishes].place] = ends[finishes].cycles;
+            report[ends[finishes].place()] = ends[finishes].cycles;
             finishes += 1;
         }
         match course.tick(&report, finishes) {
@@ -44,7 +44,7 @@ pub fn play(file: &RunFile, watch: &mut impl Watch) -> Ending {
             Err(number) => return Ending::Refused(number),
         }
         for end in &ends[..finishes] {
-            report[end.place] = 0;
+            report[end.place()] = 0;
         }
         ends = &ends[finishes..];
     }

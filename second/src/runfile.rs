@@ -13,10 +13,17 @@ const MOST_TICKS: u64 = 10_000;
 pub(crate) struct End {
     /// The tick in which the job finishes.
     pub tick: u64,
-    /// The task's place in the lists: its number less 1.
-    pub place: usize,
+    /// The task, from 1.
+    pub task: u64,
     /// The total cycles at which the job finishes.
     pub cycles: u64,
+}
+
+impl End {
+    /// The task's place in the lists.
+    pub fn place(&self) -> usize {
+        self.task as usize - 1
+    }
 }
 
 /// What a run file says. Its tables are not yet tested: that is left to start.
@@ -42,50 +49,45 @@ impl RunFile {
         }
         let mut text = Text { rest: text };
         let mut file = RunFile::default();
-
         while text.begins(b"task,") {
             let [period, reserve] = text.fields()?;
-            if file.periods.len() == TASKS {
-                return None;
-            }
             file.periods.push(period);
             file.reserves.push(reserve);
         }
-
         while text.begins(b"speed,") {
             let [speed, volts] = text.fields()?;
-            if file.speeds.len() == SPEEDS {
-                return None;
-            }
             file.speeds.push(speed);
             file.volts.push(volts);
         }
-
-        // The tick and task of the end line before; none is (0, 0), below all.
-        let mut before = (0, 0);
         while text.begins(b"end,") {
             let [tick, task, cycles] = text.fields()?;
-            let exists = 1 <= task && task <= file.periods.len() as u64;
-            let rises = (tick, task) > before;
-            if !exists || !rises || cycles == 0 || file.ends.len() == MOST_ENDS {
-                return None;
-            }
-            before = (tick, task);
-            let place = task as usize - 1;
-            file.ends.push(End {
-                tick,
-                place,
-                cycles,
-            });
+            file.ends.push(End { tick, task, cycles });
         }
-
         if !text.begins(b"run,") {
             return None;
         }
         [file.ticks] = text.fields()?;
-        // End lines rise, so the last one has the greatest tick.
-        let within = file.ends.last().is_none_or(|end| end.tick < file.ticks);
-        (file.ticks <= MOST_TICKS && within && text.rest.is_empty()).then_some(file)
+        (text.rest.is_empty() && file.keeps_limits() && file.good_ends()).then_some(file)
+    }
+
+    /// Whether there are at most so many lines of each group, and so many ticks.
+    fn keeps_limits(&self) -> bool {
+        self.periods.len() <= TASKS
+            && self.speeds.len() <= SPEEDS
+            && self.ends.len() <= MOST_ENDS
+            && self.ticks <= MOST_TICKS
+    }
+
+    /// Whether the end lines rise strictly by tick and then task, and each names a task that
+    /// exists, a tick below the run's, and at least 1 cycle.
+    fn good_ends(&self) -> bool {
+        let tasks = 1..=self.periods.len() as u64;
+        let rise = |pair: &[End]| (pair[0].tick, pair[0].task) < (pair[1].tick, pair[1].task);
+        self.ends.windows(2).all(rise)
+            && self
+                .ends
+                .iter()
+                .all(|end| tasks.contains(&end.task) && end.tick < self.ticks && end.cycles >= 1)
     }
 }
 

@@ -80,56 +80,51 @@ pub fn sound(state: &State) -> bool {
     }
     let tasks = state.task_count as usize;
     let speeds = state.speed_count as usize;
+    right_tables(state, tasks, speeds)
+        && (tasks..TASKS).all(|task| unused_task(state, task))
+        && (speeds..SPEEDS).all(|place| unused_speed(state, place))
+        && state.t <= LONGEST_RUN
+        && (0..tasks).all(|task| sound_job(state, task))
+        && true_sum(state) <= u128::from(state.t * state.speeds[speeds - 1])
+        && state.late <= 16 * state.t
+        && state.cut <= 16 * state.t
+}
 
-    // The tables pass 1 to 8, and H is right.
+/// The tables pass 1 to 8, and H is right.
+fn right_tables(state: &State, tasks: usize, speeds: usize) -> bool {
     let great = great_period(
         &state.periods[..tasks],
         &state.reserves[..tasks],
         &state.speeds[..speeds],
         &state.volts[..speeds],
     );
-    if great != Ok(state.great_period) {
-        return false;
-    }
+    great == Ok(state.great_period)
+}
 
-    // Unused places are zero.
-    let unused_task = |task: usize| {
-        state.periods[task] == 0
-            && state.reserves[task] == 0
-            && state.run[task] == 0
-            && !state.over[task]
-    };
-    let unused_speed = |place: usize| {
-        state.speeds[place] == 0 && state.volts[place] == 0 && state.counts[place] == 0
-    };
-    if !(tasks..TASKS).all(unused_task) || !(speeds..SPEEDS).all(unused_speed) {
-        return false;
-    }
+/// A place past the task count is zero.
+fn unused_task(state: &State, task: usize) -> bool {
+    state.periods[task] == 0
+        && state.reserves[task] == 0
+        && state.run[task] == 0
+        && !state.over[task]
+}
 
-    if state.t > LONGEST_RUN {
-        return false;
-    }
+/// A place past the speed count is zero.
+fn unused_speed(state: &State, place: usize) -> bool {
+    state.speeds[place] == 0 && state.volts[place] == 0 && state.counts[place] == 0
+}
 
-    // A job not over has run below its reserve; one that is over, from 1 to it.
-    let sound_job = |task: usize| {
-        if state.over[task] {
-            1 <= state.run[task] && state.run[task] <= state.reserves[task]
-        } else {
-            state.run[task] < state.reserves[task]
-        }
-    };
-    if !(0..tasks).all(sound_job) {
-        return false;
+/// A job not over has run below its reserve; one that is over, from 1 to it.
+fn sound_job(state: &State, task: usize) -> bool {
+    if state.over[task] {
+        1 <= state.run[task] && state.run[task] <= state.reserves[task]
+    } else {
+        state.run[task] < state.reserves[task]
     }
+}
 
-    // Counts and idle together, as a true sum.
-    let cycles = state
-        .counts
-        .iter()
-        .fold(u128::from(state.idle), |sum, &count| {
-            sum + u128::from(count)
-        });
-    cycles <= u128::from(state.t * state.speeds[speeds - 1])
-        && state.late <= 16 * state.t
-        && state.cut <= 16 * state.t
+/// Counts and idle together: a true sum, which may pass 64 bits.
+fn true_sum(state: &State) -> u128 {
+    let counts: u128 = state.counts.iter().map(|&count| u128::from(count)).sum();
+    counts + u128::from(state.idle)
 }

@@ -23,6 +23,29 @@ pub fn great_period(
     speeds: &[u64],
     volts: &[u64],
 ) -> Result<u64, u64> {
+    in_range(periods, reserves, speeds, volts)?;
+    // A multiple above the bound stays above it, so the first one decides.
+    let mut great = 1;
+    for &period in periods {
+        great = match least_common_multiple(great, period) {
+            Some(multiple) if multiple <= GREATEST_PERIOD => multiple,
+            _ => return Err(7),
+        };
+    }
+    // Rule 7. At most 16 x 10^9 x 10^6 on the left and 10^12 on the right: both fit.
+    let load: u64 = periods
+        .iter()
+        .zip(reserves)
+        .map(|(period, reserve)| reserve * (great / period))
+        .sum();
+    if load > speeds[speeds.len() - 1] * great {
+        return Err(8);
+    }
+    Ok(great)
+}
+
+/// Numbers 1 to 6: how many, in which range, and in which order.
+fn in_range(periods: &[u64], reserves: &[u64], speeds: &[u64], volts: &[u64]) -> Result<(), u64> {
     if periods.is_empty() || periods.len() > TASKS || reserves.len() != periods.len() {
         return Err(1);
     }
@@ -45,22 +68,5 @@ pub fn great_period(
     {
         return Err(6);
     }
-    // A multiple above the bound stays above it, so the first one decides.
-    let mut great = 1;
-    for &period in periods {
-        great = match least_common_multiple(great, period) {
-            Some(multiple) if multiple <= GREATEST_PERIOD => multiple,
-            _ => return Err(7),
-        };
-    }
-    // Rule 7. At most 16 x 10^9 x 10^6 on the left and 10^12 on the right: both fit.
-    let load: u64 = periods
-        .iter()
-        .zip(reserves)
-        .map(|(period, reserve)| reserve * (great / period))
-        .sum();
-    if load > speeds[speeds.len() - 1] * great {
-        return Err(8);
-    }
-    Ok(great)
+    Ok(())
 }
