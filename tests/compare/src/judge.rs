@@ -100,8 +100,8 @@ fn verdict(cases: &[Case], place: usize, second: Answer, answers: Vec<(&str, Ans
         .filter_map(|(name, answer)| differs(name, answer, "second", &second))
         .collect();
     if let Some(expected) = &cases[place].expected {
-        let kept = Ok(expected.clone());
-        differences.extend(differs("second", &second, "the kept text", &kept));
+        let expected = Ok(expected.clone());
+        differences.extend(differs("second", &second, "expected", &expected));
     }
     Verdict {
         case: place,

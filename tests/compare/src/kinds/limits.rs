@@ -233,7 +233,7 @@ fn filled(text: &[u8], filling: &str, length: usize) -> Text {
 }
 
 /// 35,171 bytes with CR LF: the most lines, with fields as long as they can be.
-fn largest_text(line_end: &str) -> Text {
+pub fn largest_text(line_end: &str) -> Text {
     let mut draft = longest_end_lines(9_000);
     draft.tasks = vec![(WORD - 1, WORD - 1); 16];
     draft.speeds = vec![(WORD - 1, WORD - 1); 8];

@@ -2,6 +2,7 @@
 
 mod damage;
 mod entries;
+mod known;
 mod limits;
 mod order;
 mod ordinary;
@@ -9,12 +10,16 @@ mod ordinary;
 pub use ordinary::cost_file;
 
 use crate::random::Random;
+use known::Known;
 
 /// The bytes of a run file, or of a text that is none.
 pub type Text = Vec<u8>;
 
 /// A kind's name and the function that writes its files.
 type Kind = (&'static str, fn(&mut Random) -> Vec<Text>);
+
+/// The same of files that come with their answers.
+type KnownKind = (&'static str, fn() -> Vec<Known>);
 
 const KINDS: [Kind; 25] = [
     ("ordinary tables", ordinary::ordinary),
@@ -44,11 +49,17 @@ const KINDS: [Kind; 25] = [
     ("random bytes", damage::random_bytes),
 ];
 
+/// The kinds whose answers document 01 tells.
+const KNOWN: [KnownKind; 2] = [
+    ("to be run", known::to_be_run),
+    ("run file or none", known::run_files),
+];
+
 /// A run file to be compared.
 pub struct Case {
     pub kind: String,
     pub text: Text,
-    /// What the bench must print, where that is kept.
+    /// What the bench must print, where that is known.
     pub expected: Option<Vec<u8>>,
     /// Kept in a folder of run files, not generated.
     pub kept: bool,
@@ -56,18 +67,23 @@ pub struct Case {
 
 /// Every generated file; its place is its case number.
 pub fn generated() -> Vec<Case> {
-    let of_kind = |(place, (name, files)): (usize, &Kind)| {
-        let texts = files(&mut Random::of_kind(place));
-        texts.into_iter().map(|text| case(name, text))
-    };
-    KINDS.iter().enumerate().flat_map(of_kind).collect()
+    let mut cases = Vec::new();
+    for (place, (kind, files)) in KINDS.iter().enumerate() {
+        let texts = files(&mut Random::of_kind(place)).into_iter();
+        cases.extend(texts.map(|text| case(kind, text, None)));
+    }
+    for (kind, files) in KNOWN {
+        let known = files().into_iter();
+        cases.extend(known.map(|(text, answer)| case(kind, text, Some(answer))));
+    }
+    cases
 }
 
-fn case(kind: &str, text: Text) -> Case {
+fn case(kind: &str, text: Text, expected: Option<Text>) -> Case {
     Case {
         kind: kind.to_string(),
         text,
-        expected: None,
+        expected,
         kept: false,
     }
 }
