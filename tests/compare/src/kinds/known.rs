@@ -1,4 +1,5 @@
-//! Files whose whole answer document 01 tells: both programs are held to it, and not only to each other.
+//! Files whose whole answer document 01 tells: both programs are held to it, and not only to
+//! each other.
 
 use super::limits::largest_text;
 use super::Text;
@@ -18,7 +19,8 @@ pub fn to_be_run() -> Vec<Known> {
     files
 }
 
-/// Equal periods 4 and 4: task 1 goes first, whatever the reserves, and again after the next release.
+/// Equal periods 4 and 4: task 1 goes first, whatever the reserves, and again after the next
+/// release.
 fn equal_periods() -> Vec<Known> {
     let runs = [
         (
@@ -164,8 +166,8 @@ fn counts_of_lines() -> Vec<Known> {
     counts.map(file).to_vec()
 }
 
-/// Each byte behind the run line's digits: a digit and LF can stand there, nothing else. Behind its LF nothing can,
-/// up to 65,536 bytes and one more.
+/// Each byte behind the run line's digits: a digit and LF can stand there, nothing else. Behind its
+/// LF nothing can, up to 65,536 bytes and one more.
 fn behind_the_run_line() -> Vec<Known> {
     let good = format!("{TABLE}run,1");
     let ended = |byte: u8| {
