@@ -1,8 +1,8 @@
 -- Releases, vanishing and joins keep the books in order: a place that stays is the same on both sides; one that is renewed or joins had no room left and owes no more than its new room; one that is gone or was never there has nothing on either side.
-use mathlib.Core.Path.{_≡_, refl, sym, ap, _∙_}
-use mathlib.Core.Bool.{Bool, true, false, false≢true, not, _&&_}
+use mathlib.Core.Path.{_≡_, sym, ap, _∙_}
+use mathlib.Core.Bool.{Bool, false, _&&_}
 use mathlib.Core.Logic.{_⊎_, inl, inr}
-use Prim.Native.Nat.{ℕ, _+_, _-_, _*_, _/_, _≤_, _<_}
+use Prim.Native.Nat.{ℕ, _+_, _-_, _≤_}
 use native.Mathlib.Nat.{add-sub-cancel-left}
 use native.Mathlib.Omega.{arith}
 use lib.Dec.{leb}
@@ -10,7 +10,7 @@ use Rattle.units.specs.declared.Ticks.{Ticks}
 use Rattle.rules.specs.declared.Jobs.{Jobs}
 use Rattle.rules.specs.declared.Job.{Job}
 use Rattle.rules.proofs.Totals.{total-mono}
-use Rattle.ontime.specs.OnTime.{Course, sumTo, counts, owes, room, owedAt, roomAt, CoveredFrom, Covered, jobOf, Same, Fresh, Closed, GoesOn, ReleasesKeep}
+use Rattle.ontime.specs.OnTime.{Course, sumTo, counts, owes, room, owedAt, roomAt, CoveredFrom, jobOf, Same, Fresh, Closed, GoesOn, ReleasesKeep}
 use Rattle.ontime.proofs.Sums.{sum-add}
 use Rattle.ontime.proofs.OneJob.{none-owes, none-room, no-room, fresh-room}
 

@@ -1,17 +1,17 @@
 -- A change of H to a multiple of it multiplies both sides of the books.
 use mathlib.Core.Path.{_≡_, refl, sym, ap, _∙_}
 use mathlib.Core.Bool.{Bool, true, false, cond, not, _&&_}
-use Prim.Native.Nat.{ℕ, _+_, _-_, _*_, _/_, _≤_, _<_}
-use native.Mathlib.Nat.{mul-zero, mul-assoc, mul-comm, mul-le-mul-left, mul-div-cancel, le-of-mul-le-mul-left}
+use Prim.Native.Nat.{ℕ, _-_, _*_, _/_, _≤_, _<_}
+use native.Mathlib.Nat.{mul-zero, mul-assoc, mul-le-mul-left, mul-div-cancel, le-of-mul-le-mul-left}
 use native.Mathlib.Omega.{arith}
 use lib.Dec.{leb}
 use Rattle.rules.specs.declared.Job.{Job}
-use Rattle.rules.specs.Words.{upTo, total}
+use Rattle.rules.specs.Words.{upTo}
 use Rattle.rules.specs.Load.{useOf}
 use Rattle.rules.specs.Settlement.{remaining}
 use Rattle.rules.proofs.Lists.{both-left}
 use Rattle.rules.proofs.Totals.{total-times}
-use Rattle.ontime.specs.OnTime.{Course, sumTo, counts, owes, room, owedAt, roomAt, CoveredFrom, Covered, jobOf, Same, AnyMultipleWillDo}
+use Rattle.ontime.specs.OnTime.{Course, sumTo, counts, owes, room, owedAt, roomAt, CoveredFrom, jobOf, Same, AnyMultipleWillDo}
 use Rattle.ontime.proofs.Sums.{sum-same}
 
 -- a quotient of a multiple

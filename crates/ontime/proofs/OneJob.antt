@@ -1,10 +1,10 @@
 -- Rule 4 for one ready job, in the books: a job that counts pays what it is granted, and cycles are left behind only by a job that is over.
 use mathlib.Core.Path.{_≡_, refl, sym, ap, _∙_}
-use mathlib.Core.Bool.{Bool, true, false, cond, not, _&&_}
+use mathlib.Core.Bool.{Bool, true, false, cond}
 use Prim.Native.Nat.{ℕ, _+_, _-_, _*_, _/_, _≤_, _<_, min}
 use native.Mathlib.Nat.{zero-add, zero-mul, mul-zero, mul-pos, mul-le-mul-left, div-mul-le-self}
 use native.Mathlib.Omega.{arith}
-use lib.Dec.{eqb, ltb, leb}
+use lib.Dec.{eqb, ltb}
 use borrow.Author.Tests.{eqb-true, eq-eqb, ltb-true}
 use Rattle.rules.specs.declared.Job.{Job}
 use Rattle.rules.specs.Limits.{upToMost}

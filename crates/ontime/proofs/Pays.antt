@@ -7,7 +7,7 @@ use native.Mathlib.Decide.{ℕ-discrete, decLt}
 use native.Mathlib.Omega.{arith}
 use lib.Dec.{eqb, leb, ltb}
 use lib.ListN.{length, getD, length-set}
-use borrow.Author.Tests.{eqb-false, leb-true, le-leb, ltb-true, not-true}
+use borrow.Author.Tests.{leb-true, le-leb, ltb-true, not-true}
 use Rattle.rules.specs.declared.Jobs.{Jobs}
 use Rattle.rules.specs.declared.Job.{Job}
 use Rattle.rules.specs.declared.Settling.{Settling}
@@ -18,26 +18,15 @@ use Rattle.rules.specs.Load.{useOf}
 use Rattle.rules.specs.Settlement.{allowed, granted, settleAt, settleAll, allAllowed, atTickStart}
 use Rattle.rules.specs.Numbers.{runRight}
 use Rattle.rules.proofs.Lists.{both-left, both-right, every-first, every-rest}
-use Rattle.rules.proofs.Totals.{total-mono}
+use Rattle.rules.proofs.Totals.{total-mono, total-change}
 use Rattle.rules.proofs.Orders.{apart, every-mono, order-ready, order-below, order-apart}
 use Rattle.rules.proofs.Sorted.{order-sorted}
-use Rattle.rules.proofs.Stores.{withRun}
 use Rattle.rules.proofs.Shares.{settledJob, granted-left}
-use Rattle.rules.proofs.Settles.{job-here, job-elsewhere, allowed-first, allowed-rest}
+use Rattle.rules.proofs.Settles.{every-kept, job-here, job-elsewhere, allowed-first, allowed-rest}
 use Rattle.ontime.specs.OnTime.{Course, sumTo, counts, owes, room, owedAt, roomAt, CoveredFrom, Covered, loadAt, loadIn, readyIn, orderIn, settledIn, Right, Paid, AnyTickPays, jobOf}
-use Rattle.ontime.proofs.Sums.{sum-zero, zero-sum, sum-add, sum-change, sum-below}
+use Rattle.ontime.proofs.Sums.{sum-zero, zero-sum, sum-add, sum-below}
 use Rattle.ontime.proofs.Levels.{LevelFirst, level-rest, level-none, upto-first, order-has, mem-rest}
 use Rattle.ontime.proofs.OneJob.{none-owes, over-owes, owing-open, none-room, no-room, tick-spends, left-over, still-right, due-pays, owes-none-over}
-
--- a test of other places than i, kept where the places other than i are
-every-kept : (q r : ℕ → Bool) (i : ℕ) → ((k : ℕ) → (k ≡ i → ⊥) → q k ≡ r k) → (o : List ℕ) → every (λ k. not (eqb k i)) o ≡ true → every q o ≡ true → every r o ≡ true
-unfolding every
-every-kept q r i same [] n e = refl
-every-kept q r i same (k ∷ o) n e =
-    let differs : k ≡ i → ⊥ = eqb-false k i (not-true (eqb k i) (both-left (not (eqb k i)) (every (λ x. not (eqb x i)) o) n)) in
-    let here : r k ≡ true = sym (same k differs) ∙ both-left (q k) (every q o) e in
-    let there : every r o ≡ true = every-kept q r i same o (both-right (not (eqb k i)) (every (λ x. not (eqb x i)) o) n) (both-right (q k) (every q o) e) in
-    rw (here, there)
 
 -- an order that is still to be settled: its places hold tasks whose jobs are not over, all different
 record Waits (c : Course) (o : List ℕ) (sofar : Settling) : Type 0 where
@@ -100,7 +89,7 @@ module _ (c : Course) (few : c .places ≤ mostTasks) (near : (i : ℕ) → i < 
     -- a sum over the jobs changes by this job's part
     change : (f : ℕ → Job → ℕ) → sumTo (c .places) (λ k. f k (jobOf c (next .jobs) k)) + f i j ≡ sumTo (c .places) (λ k. f k (jobOf c (sofar .jobs) k)) + f i (jobOf c (next .jobs) i)
     change f =
-        sum-change (λ k. f k (jobOf c (next .jobs) k)) (λ k. f k (jobOf c (sofar .jobs) k)) (c .places) i place (λ k l ne. ap (f k) (elsewhere k ne))
+        total-change (λ k. f k (jobOf c (next .jobs) k)) (λ k. f k (jobOf c (sofar .jobs) k)) (c .places) i place (λ k ne. ap (f k) (elsewhere k ne))
 
   -- by d
   module _ (d : ℕ) where

@@ -1,4 +1,4 @@
--- The laws of `sumTo`: of equal, added, zero and constant terms, of terms that differ at one place, of sums in two directions and window by window. By induction on the places, the last one apart.
+-- The laws of `sumTo`: of equal, added, zero and constant terms, of sums in two directions and window by window. By induction on the places, the last one apart.
 use mathlib.Core.Path.{_≡_, refl, sym, ap, _∙_}
 use Prim.Native.Nat.{ℕ, zero, suc, _+_, _*_, _≤_, _<_}
 use native.Mathlib.Nat.{suc-mul, zero-mul, add-zero, add-suc}
@@ -49,19 +49,6 @@ module _ (f g : ℕ → ℕ) where
       go (no h) r =
           let w : (i : ℕ) × (i < n) × (f i < g i) = r (omega (arith, total-last f n, total-last g n)) in
           (w .0, omega (arith, w .1), w .2)
-
-  -- terms that differ at one place only
-  pub sum-change : (n k : ℕ) → k < n → ((i : ℕ) → i < n → (i ≡ k → ⊥) → f i ≡ g i) → sumTo n f + g k ≡ sumTo n g + f k
-  sum-change zero k l same = absurd (omega arith)
-  sum-change (suc n) k l same = go (ℕ-discrete k n) (λ (m : k < n). sum-change n k m (λ i h. same i (omega arith)))
-    where
-      go : Dec (k ≡ n) → (k < n → sumTo n f + g k ≡ sumTo n g + f k) → sumTo (suc n) f + g k ≡ sumTo (suc n) g + f k
-      go (yes q) r =
-          rw q
-          (omega (arith, total-last f n, total-last g n, sum-same n (λ i h. same i (omega arith) (λ (z : i ≡ k). absurd (omega arith)))))
-      go (no q) r =
-          let last : f n ≡ g n = same n (omega arith) (λ (z : n ≡ k). q (sym z)) in
-          omega (arith, total-last f n, total-last g n, r (omega arith))
 
 -- terms that are 0 from a place on add nothing
 pub sum-short : (f : ℕ → ℕ) (n m : ℕ) → n ≤ m → ((i : ℕ) → n ≤ i → i < m → f i ≡ 0) → sumTo m f ≡ sumTo n f

@@ -11,7 +11,7 @@ use Rattle.rules.specs.declared.Jobs.{Jobs}
 use Rattle.rules.specs.declared.Job.{Job}
 use Rattle.rules.specs.Words.{upTo, total}
 use Rattle.rules.specs.Limits.{mostTasks}
-use Rattle.rules.specs.State.{periodAt, jobAt}
+use Rattle.rules.specs.State.{jobAt}
 use Rattle.rules.specs.Load.{useOf}
 use Rattle.rules.specs.Choice.{orderBy}
 use Rattle.rules.specs.Settlement.{remaining, settleAll, allAllowed, atTickStart}

@@ -4,7 +4,7 @@ use mathlib.Core.Bool.{false}
 use mathlib.Core.Logic.{inl, inr}
 use mathlib.Core.List.{List}
 use Prim.Native.Nat.{ℕ, _+_, _<_}
-use native.Mathlib.Nat.{zero-mod, le-trans, le-of-eq}
+use native.Mathlib.Nat.{zero-mod, le-trans}
 use native.Mathlib.Omega.{arith}
 use Rattle.units.specs.declared.Cycles.{Cycles}
 use Rattle.rules.specs.declared.Job.{Job}
@@ -16,7 +16,6 @@ use Rattle.rules.specs.Calls.{freshTally, freshState}
 use Rattle.rules.proofs.Loads.{speed-enough}
 use Rattle.rules.proofs.GreatLaws.{great-whole}
 use Rattle.rules.proofs.Fresh.{run-fresh, over-fresh}
-use Rattle.rules.proofs.Keeps.{all-allowed}
 use Rattle.promises.specs.Runs.{Table, Call, Step, Each, started, after, steps, stepOf}
 use Rattle.promises.specs.NeverLate.{OverAtRelease, NeverLateInAnyRun, Covered, TasksRight, OnCourse, FreshStartIsOnCourse, OnTime, AnyTickThatCarriesTheLoad}
 use Rattle.promises.proofs.RunLaws.{Taken, next, tests-passed, step-speed, by-steps}

@@ -1,7 +1,7 @@
 -- A tick of a state is a tick of its course: every place below the count holds a task, and its deadline is rule 1's. So the step of `ontime` is one of states.
 use mathlib.Core.Path.{_≡_, refl, sym, ap, _∙_}
-use mathlib.Core.Bool.{Bool, true, false, cond, not}
-use mathlib.Core.Logic.{_⊎_, inl, inr}
+use mathlib.Core.Bool.{Bool, true, false, cond}
+use mathlib.Core.Logic.{inl, inr}
 use mathlib.Core.List.{List}
 use Prim.Native.Nat.{ℕ, _+_, _*_, _/_, _%_, _≤_, _<_}
 use native.Mathlib.Omega.{arith}
@@ -23,11 +23,11 @@ use Rattle.rules.proofs.Deadlines.{deadline-most, deadline-next, due-stays, due
 use Rattle.rules.proofs.GreatLaws.{great-whole, great-some}
 use Rattle.rules.proofs.Releases.{afterRelease, lates, releases-late-is}
 use Rattle.rules.proofs.Keeps.{JobsRight, all-allowed, job-after, jobs-after}
-use Rattle.ontime.specs.OnTime.{Course, CoveredFrom, Right, Paid, loadIn, loadAt, readyIn, settledIn, counts, owes, room, Same, Fresh, Closed, GoesOn, AnyTickPays, ReleasesKeep}
+use Rattle.ontime.specs.OnTime.{Course, CoveredFrom, Right, Paid, loadIn, loadAt, readyIn, counts, owes, room, Same, Fresh, Closed, GoesOn, AnyTickPays, ReleasesKeep}
 use Rattle.ontime.proofs.Theorems.{tick-pays, releases}
-use Rattle.ontime.proofs.Sums.{sum-same, sum-zero}
+use Rattle.ontime.proofs.Sums.{sum-zero}
 use Rattle.promises.specs.Runs.{sumTo}
-use Rattle.promises.specs.NeverLate.{OverAtRelease, owedAt, roomAt, Covered, TasksRight, OnCourse, OnTime, AnyTickThatCarriesTheLoad}
+use Rattle.promises.specs.NeverLate.{OverAtRelease, owedAt, roomAt, Covered, TasksRight, AnyTickThatCarriesTheLoad}
 
 abbrev pub courseOf : State → Course
 courseOf s = record { tasks = s .tasks; jobs = s .jobs; places = s .tasks .count; held = λ i. true; tick = s .done .0; due = deadlineAt s }

@@ -9,10 +9,9 @@ use lib.Dec.{eqb}
 use lib.ListN.{length, getD}
 use borrow.Author.Tests.{eqb-true, eq-eqb}
 use Rattle.rules.specs.declared.Ladder.{Ladder}
-use Rattle.rules.specs.declared.Tally.{Tally}
 use Rattle.rules.specs.declared.State.{State}
 use Rattle.rules.specs.Words.{total}
-use Rattle.rules.specs.State.{countAt, speedAt, voltsAt, speedsOf, voltsOf}
+use Rattle.rules.specs.State.{speedAt, voltsAt, speedsOf, voltsOf}
 use Rattle.rules.specs.Choice.{lowest, speedPlace}
 use Rattle.rules.specs.Counting.{nextOf, energySum}
 use Rattle.rules.specs.Numbers.{speedsRise}
@@ -20,9 +19,9 @@ use Rattle.rules.proofs.Climbs.{rise-order}
 use Rattle.rules.proofs.Lowest.{lowest-fits, before-fails, fit-below}
 use Rattle.rules.proofs.Soundness.{Sound}
 use Rattle.rules.proofs.Loads.{place-below, speeds-at, volts-at, in-speeds}
+use Rattle.rules.proofs.Energies.{energy-change}
 use Rattle.promises.specs.Runs.{Call, Step, stepOf, steps, after, granted}
 use Rattle.promises.proofs.RunLaws.{next, Taken, by-steps}
-use Rattle.ontime.proofs.Sums.{sum-change}
 use Rattle.promises.proofs.SoundRuns.{SoundAndShaped, sound-next}
 use Rattle.promises.proofs.Tallies.{count-here, count-elsewhere, step-speed-at}
 
@@ -53,15 +52,6 @@ unfolding ladderVolts
 volts-beside s f k h =
     rw (← speeds-at (s .ladder) k h, rise-found (speedsOf (s .ladder)) (f .speeds-rise) k (in-speeds s f k h))
     (volts-at (s .ladder) k h)
-
--- a tally with more counted at one place has so much more energy
-energy-change : (l : Ladder) (a b : Tally) (k g : ℕ) → k < l .count → countAt b k ≡ countAt a k + g → ((i : ℕ) → (i ≡ k → ⊥) → countAt b i ≡ countAt a i) → energySum l b ≡ energySum l a + g * voltsAt l k * voltsAt l k
-unfolding energySum
-energy-change l a b k g h here there =
-    let term : Tally → ℕ → ℕ = λ tally i. countAt tally i * voltsAt l i * voltsAt l i in
-    let changed = sum-change (term b) (term a) (l .count) k h (λ i m ne. ap (λ c. c * voltsAt l i * voltsAt l i) (there i ne)) in
-    let grown = ap (λ c. c * voltsAt l k * voltsAt l k) here in
-    omega (arith, changed, grown)
 
 -- the energy of one tick: its grants at the volts of its speed
 unfoldable pub stepEnergy : Ladder → Step → ℕ

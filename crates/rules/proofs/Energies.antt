@@ -1,18 +1,47 @@
--- Rule 6's sum of a sound state fits 64 bits: each count at most 100 x 100 times, all counts together at most t x top speed.
+-- Rule 6's sum: what it grows by, and that of a sound state fits 64 bits: each count at most 100 x 100 times, all counts together at most t x top speed.
+use mathlib.Core.Path.{_≡_, ap, fun-ext}
 use mathlib.Core.List.{List, [], _∷_}
-use Prim.Native.Nat.{ℕ, zero, suc, zero-le, _*_, _≤_, _<_}
-use native.Mathlib.Nat.{mul-le-mul, mul-le-mul-left}
+use Prim.Native.Nat.{ℕ, zero, suc, zero-le, _+_, _*_, _≤_, _<_}
+use native.Mathlib.Nat.{mul-add, add-mul, mul-le-mul, mul-le-mul-left}
 use native.Mathlib.Omega.{arith}
 use lib.ListN.{getD}
 use Rattle.units.specs.Units.{cycles}
 use Rattle.units.specs.declared.Cycles.{Cycles}
+use Rattle.rules.specs.declared.Ladder.{Ladder}
+use Rattle.rules.specs.declared.Tally.{Tally}
 use Rattle.rules.specs.declared.State.{State}
 use Rattle.rules.specs.Words.{upTo, total}
 use Rattle.rules.specs.Limits.{mostTicks, mostSpeed, mostVolts}
 use Rattle.rules.specs.State.{countAt, voltsAt, topOf, speedsOf}
 use Rattle.rules.specs.Counting.{energySum}
-use Rattle.rules.proofs.Totals.{total-places, total-mono, total-times}
+use Rattle.rules.proofs.Totals.{total-places, total-mono, total-times, total-change}
 use Rattle.rules.proofs.Soundness.{Sound}
+
+-- Rule 6. g cycles more counted at one speed cost g times its volts twice,
+pub energy-change : (l : Ladder) (a b : Tally) (k g : ℕ) → k < l .count → countAt b k ≡ countAt a k + g → ((i : ℕ) → (i ≡ k → ⊥) → countAt b i ≡ countAt a i) → energySum l b ≡ energySum l a + g * voltsAt l k * voltsAt l k
+unfolding energySum
+energy-change l a b k g h here there =
+    let term : Tally → ℕ → ℕ = λ tally i. countAt tally i * voltsAt l i * voltsAt l i in
+    let changed = total-change (term b) (term a) (l .count) k h (λ i ne. ap (λ c. c * voltsAt l i * voltsAt l i) (there i ne)) in
+    let grown = ap (λ c. c * voltsAt l k * voltsAt l k) here in
+    omega (arith, changed, grown)
+
+-- one term at twice the volts
+doubled : (c v : ℕ) → c * (2 * v) * (2 * v) ≡ 4 * (c * v * v)
+doubled c v =
+    let twice : 2 * v ≡ v + v = omega arith in
+    let once : c * (v + v) ≡ c * v + c * v = mul-add c v v in
+    let sum : (c * v + c * v) * (v + v) ≡ (c * v + c * v) * v + (c * v + c * v) * v = mul-add (c * v + c * v) v v in
+    let each : (c * v + c * v) * v ≡ c * v * v + c * v * v = add-mul (c * v) (c * v) v in
+    rw (twice, once) (omega (arith, sum, each))
+
+-- so twice the volts at every speed is four times the energy
+pub energy-doubled : (l m : Ladder) (tally : Tally) → m .count ≡ l .count → ((i : ℕ) → voltsAt m i ≡ 2 * voltsAt l i) → energySum m tally ≡ 4 * energySum l tally
+unfolding energySum
+energy-doubled l m tally n twice =
+    let terms : _≡_ {A = ℕ → ℕ} (λ i. countAt tally i * voltsAt m i * voltsAt m i) (λ i. 4 * (countAt tally i * voltsAt l i * voltsAt l i)) =
+    fun-ext (λ i. rw (twice i) (doubled (countAt tally i) (voltsAt l i))) in
+    rw (terms, n) (total-times 4 (λ i. countAt tally i * voltsAt l i * voltsAt l i) (upTo (l .count) (λ i. i)))
 
 -- the most that a sound state's energy comes to
 abbrev pub mostEnergy : ℕ

@@ -20,4 +20,5 @@ pub mod Soundness
 pub mod Stores
 pub mod Tables
 pub mod Totals
+pub mod Uses
 pub mod WalkLaws

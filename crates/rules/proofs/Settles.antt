@@ -44,7 +44,7 @@ pub record Settles (ts : Tasks) (js : Jobs) (n speed : ℕ) (o : List ℕ) (sofa
   pub cuts : sofar .cut + length o ≤ mostTasks
 
 -- a test of other places than i, kept where the places other than i are
-every-kept : (q r : ℕ → Bool) (i : ℕ) → ((k : ℕ) → (k ≡ i → ⊥) → q k ≡ r k) → (o : List ℕ) → every (λ k. not (eqb k i)) o ≡ true → every q o ≡ true → every r o ≡ true
+pub every-kept : (q r : ℕ → Bool) (i : ℕ) → ((k : ℕ) → (k ≡ i → ⊥) → q k ≡ r k) → (o : List ℕ) → every (λ k. not (eqb k i)) o ≡ true → every q o ≡ true → every r o ≡ true
 unfolding every
 every-kept q r i same [] n e = refl
 every-kept q r i same (k ∷ o) n e =

@@ -1,4 +1,4 @@
--- The laws of `total`: over the places of a list, at its last place, of smaller terms, of a factor, after a store. By induction on the list or on its number of places.
+-- The laws of `total`: over the places of a list, at its last place, of smaller terms, of a factor, after a store, of terms that differ at one place. By induction on the list or on its number of places.
 use mathlib.Core.Path.{_≡_, refl, sym, ap, _∙_}
 use mathlib.Core.List.{List, [], _∷_}
 use Prim.Native.Nat.{ℕ, zero, suc, suc-le-suc, _+_, _*_, _≤_, _<_}
@@ -6,6 +6,7 @@ use native.Mathlib.Nat.{le-of-suc-le-suc, not-suc-le-zero, mul-zero, mul-add, le
 use native.Mathlib.Omega.{arith}
 use lib.ListN.{length, getD, set}
 use Rattle.rules.specs.Words.{upTo, total}
+use Rattle.rules.proofs.Lists.{length-upTo, getD-upTo, upTo-set}
 
 -- a sum over the places of a list of values is the sum over the values
 pub total-places : {A : Type 0} (f : A → ℕ) (g : ℕ → A) (n : ℕ) → total f (upTo n g) ≡ total (λ i. f (g i)) (upTo n (λ i. i))
@@ -46,3 +47,11 @@ total-set f (y ∷ l) zero x d h = omega arith
 total-set f (y ∷ l) (suc i) x d h =
     let rest : total f (set l i x) + f (getD l i d) ≡ total f l + f x = total-set f l i x d (le-of-suc-le-suc h) in
     omega arith
+
+-- sums whose terms differ at one place only
+pub total-change : (f g : ℕ → ℕ) (n k : ℕ) → k < n → ((i : ℕ) → (i ≡ k → ⊥) → f i ≡ g i) → total f (upTo n (λ i. i)) + g k ≡ total g (upTo n (λ i. i)) + f k
+total-change f g n k l same =
+    let stored : set (upTo n g) k (f k) ≡ upTo n f = upTo-set n g f k (f k) l refl (λ i ne. sym (same i ne)) in
+    let sum = total-set (λ x. x) (upTo n g) k (f k) 0 (rw (length-upTo n g) l) in
+    rw (← total-places (λ x. x) f n, ← total-places (λ x. x) g n, ← stored)
+    (rw (getD-upTo n g k 0 l) at sum)
