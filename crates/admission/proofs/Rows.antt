@@ -9,8 +9,8 @@ use Rattle.units.specs.declared.Ticks.{Ticks}
 use Rattle.rules.specs.Limits.{mostTasks, mostGreat}
 use Rattle.rules.specs.State.{topOf}
 use Rattle.rules.specs.Admission.{greatOf, fullLoad, admitted}
-use Rattle.rules.specs.Numbers.{startNumber}
-use Rattle.rules.proofs.Tables.{Forms, Passes, match-most, match-same, number-0}
+use Rattle.rules.specs.Numbers.{startNumber, Forms}
+use Rattle.rules.proofs.Tables.{Passes, match-most, match-same, number-0}
 use Rattle.admission.specs.Parts.{Formed, Summable}
 use Rattle.admission.specs.Verdict.{verdictOf, refusal}
 

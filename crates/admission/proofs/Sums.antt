@@ -2,19 +2,15 @@
 use mathlib.Core.Path.{_≡_}
 use mathlib.Core.List.{List}
 use Prim.Native.Nat.{ℕ, _+_, _*_, _/_, _≤_, _<_}
-use native.Mathlib.Nat.{mul-le-mul, div-le-self, le-trans}
 use native.Mathlib.Omega.{arith}
 use lib.ListN.{length, getD, drop, drop-of-length-le}
 use Rattle.units.specs.declared.Ticks.{Ticks}
-use Rattle.rules.specs.Limits.{mostPeriod, mostReserve, upToMost}
+use Rattle.rules.specs.Limits.{mostPeriod, mostReserve, mostTerm, upToMost}
 use Rattle.rules.specs.Admission.{fullLoad}
 use Rattle.rules.proofs.Lists.{rest-cons, every-at}
 use Rattle.rules.proofs.Ranges.{range-from, range-to}
+use Rattle.rules.proofs.Loads.{term-most}
 use Rattle.admission.specs.Parts.{Summable}
-
--- the most that one term comes to
-abbrev pub mostTerm : ℕ
-mostTerm = 1_000_000_000_000_000
 
 module _ (great : Ticks) (ps cs : List ℕ) (i : ℕ) where
   -- a turn
@@ -35,8 +31,8 @@ module _ (great : Ticks) (ps cs : List ℕ) (s : Summable ps cs great) (i : ℕ)
   pub period-pos : 0 < getD ps i 0
   period-pos = range-from mostPeriod (getD ps i 0) (every-at (upToMost mostPeriod) ps 0 i (s .periods-allowed) h)
 
-  pub term-most : getD cs i 0 * (great .0 / getD ps i 0) ≤ mostTerm
-  term-most =
-      mul-le-mul
+  pub full-term : getD cs i 0 * (great .0 / getD ps i 0) ≤ mostTerm
+  full-term =
+      term-most (getD cs i 0) (great .0) (getD ps i 0)
       (range-to mostReserve (getD cs i 0) (every-at (upToMost mostReserve) cs 0 i (s .reserves-allowed) paired-at))
-      (le-trans (div-le-self (great .0) (getD ps i 0)) (s .small))
+      (s .small)

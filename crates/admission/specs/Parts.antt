@@ -11,8 +11,7 @@ use Rattle.units.specs.declared.Cycles.{Cycles}
 use Rattle.rules.specs.Words.{every}
 use Rattle.rules.specs.Limits.{mostTasks, mostPeriod, mostReserve, mostGreat, upToMost}
 use Rattle.rules.specs.Admission.{fullLoad}
-use Rattle.rules.specs.Numbers.{startNumber}
-use Rattle.rules.proofs.Tables.{Forms}
+use Rattle.rules.specs.Numbers.{startNumber, Forms}
 
 -- No. 5, 6: each number from 1 to the most and at least `gap` above the one before
 unfoldable pub climbsFrom : ℕ → ℕ → ℕ → List ℕ → Bool

@@ -17,8 +17,7 @@ use Rattle.rules.specs.Calls.{startOf}
 use Rattle.rules.proofs.Lists.{every-at}
 use Rattle.rules.proofs.Ranges.{range-from}
 use Rattle.rules.proofs.Tables.{match-same, row-failed, rows-after}
-use Rattle.rules.proofs.Totals.{total-places}
-use Rattle.rules.proofs.Loads.{total-most}
+use Rattle.rules.proofs.Totals.{total-places, total-most}
 use Rattle.promises.specs.Runs.{started, sumTo}
 use Rattle.promises.specs.TurnedAway.{HandOut, WithinTopSpeed, gets, TurnedAwayForLoad}
 use Rattle.ontime.proofs.Sums.{sum-const, sum-below, sum-swap, sum-windows}

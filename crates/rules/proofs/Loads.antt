@@ -1,8 +1,8 @@
 -- What soundness says of loads and speeds: no use passes its reserve, so the load is at most the sum that admission tested, and the top speed carries it.
 use mathlib.Core.Path.{_≡_}
 use mathlib.Core.Bool.{Bool, true, false, cond}
-use Prim.Native.Nat.{ℕ, zero, suc, zero-le, suc-le-suc, _-_, _*_, _/_, _≤_, _<_}
-use native.Mathlib.Nat.{add-comm, add-le-add, suc-mul, mul-le-mul, mul-le-mul-right, div-le-self, le-trans, le-refl, zero-lt-suc}
+use Prim.Native.Nat.{ℕ, zero, suc, suc-le-suc, _-_, _*_, _/_, _≤_, _<_}
+use native.Mathlib.Nat.{add-le-add, mul-le-mul, mul-le-mul-right, div-le-self, le-trans, le-refl, zero-lt-suc}
 use native.Mathlib.Omega.{arith}
 use lib.Dec.{ltb}
 use lib.ListN.{length, getD}
@@ -11,7 +11,7 @@ use Rattle.rules.specs.declared.Job.{Job}
 use Rattle.rules.specs.declared.Ladder.{Ladder}
 use Rattle.rules.specs.declared.State.{State}
 use Rattle.rules.specs.Words.{upTo, total}
-use Rattle.rules.specs.Limits.{mostSpeed, mostVolts, upToMost}
+use Rattle.rules.specs.Limits.{mostReserve, mostSpeed, mostVolts, mostGreat, mostTerm, upToMost}
 use Rattle.rules.specs.State.{jobAt, jobsOf, periodAt, reserveAt, speedAt, voltsAt, periodsOf, reservesOf, speedsOf, voltsOf, topOf}
 use Rattle.rules.specs.Load.{useOf, load, carries}
 use Rattle.rules.specs.Choice.{loadOf, fitsOf, speedPlace, speedOf, noneCarries}
@@ -22,10 +22,6 @@ use Rattle.rules.proofs.Ranges.{range-from, range-to}
 use Rattle.rules.proofs.Climbs.{rise-range, rise-order, rise-top, stay-range, stay-order}
 use Rattle.rules.proofs.Lowest.{lowest-fits, before-fails, fit-below, below-some}
 use Rattle.rules.proofs.Soundness.{Sound, length-speeds, length-volts}
-
--- the most that one term of the load comes to: a reserve of 10 ^ 9 in each of 10 ^ 6 jobs
-abbrev pub mostTerm : ℕ
-mostTerm = 1_000_000_000_000_000
 
 -- a job whose run count is right uses at most its reserve
 pub use-cases : (over : Bool) (run reserve : ℕ) → cond over (upToMost reserve run) (ltb run reserve) ≡ true → cond over run reserve ≤ reserve
@@ -44,33 +40,15 @@ load-full great (suc n) job e =
     add-le-add (mul-le-mul-right (great / job 0 .period .0) (use-most (job 0) (e 0 (zero-lt-suc n))))
     (load-full great n (λ i. job (suc i)) (λ i h. e (suc i) (suc-le-suc h)))
 
--- a sum of n terms, each at most the most
-pub total-most : {A : Type 0} (f : A → ℕ) (most n : ℕ) (g : ℕ → A) → ((i : ℕ) → i < n → f (g i) ≤ most) → total f (upTo n g) ≤ n * most
-unfolding total upTo
-total-most f most zero g e = zero-le
-total-most f most (suc n) g e =
-    rw (suc-mul n most, add-comm (n * most) most)
-    (add-le-add (e 0 (zero-lt-suc n)) (total-most f most n (λ i. g (suc i)) (λ i h. e (suc i) (suc-le-suc h))))
+-- one term of a load is at most the most
+pub term-most : (c great p : ℕ) → c ≤ mostReserve → great ≤ mostGreat → c * (great / p) ≤ mostTerm
+term-most c great p few small = mul-le-mul few (le-trans (div-le-self great p) small)
 
 module _ (s : State) (f : Sound s) where
   pub load-most-full : loadOf s ≤ fullLoad (s .tasks .great .0) (periodsOf (s .tasks)) (reservesOf (s .tasks))
   unfolding loadOf jobsOf periodsOf reservesOf jobAt periodAt reserveAt
   load-most-full =
       load-full (s .tasks .great .0) (s .tasks .count) (jobAt (s .tasks) (s .jobs)) (f .run-right)
-
-  -- each term is at most the most, and so are 16 together
-  pub term-most : (i : ℕ) → i < s .tasks .count → useOf (jobAt (s .tasks) (s .jobs) i) * (s .tasks .great .0 / periodAt (s .tasks) i) ≤ mostTerm
-  unfolding jobAt reserveAt
-  term-most i h =
-      mul-le-mul (le-trans (use-most (jobAt (s .tasks) (s .jobs) i) (f .run-right i h)) (f .reserve-most i h))
-      (le-trans (div-le-self (s .tasks .great .0) (periodAt (s .tasks) i)) (f .great-most))
-
-  pub load-most : loadOf s ≤ 16 * 1_000_000_000_000_000
-  unfolding loadOf load jobsOf jobAt periodAt
-  load-most =
-      le-trans
-      (total-most (λ (j : Job). useOf j * (s .tasks .great .0 / j .period .0)) mostTerm (s .tasks .count) (jobAt (s .tasks) (s .jobs)) term-most)
-      (mul-le-mul-right mostTerm (f .tasks-most))
 
   -- the top speed carries the load
   pub top-carries : loadOf s ≤ topOf (speedsOf (s .ladder)) * s .tasks .great .0

@@ -11,7 +11,7 @@ use borrow.Author.Tests.{lt-ltb, le-ltb, ltb-false, eqb-true, not-false}
 use Rattle.rules.specs.Words.{every, firstOf}
 use Rattle.rules.specs.Limits.{mostTasks, mostPeriod, mostReserve, mostSpeeds, mostGreat, upToMost}
 use Rattle.rules.specs.Admission.{greatOf, admitted}
-use Rattle.rules.specs.Numbers.{sameCount, speedsRise, voltsNeverFall, startNumber}
+use Rattle.rules.specs.Numbers.{sameCount, speedsRise, voltsNeverFall, startNumber, Forms}
 use Rattle.rules.proofs.Lists.{both-left, both-right}
 use Rattle.rules.proofs.Ranges.{range-from, range-to}
 
@@ -48,15 +48,6 @@ first-fails b n rows p e = row-failed b n 0 rows (λ z. ne-of-lt p (sym z)) e
 
 pub rest-fails : (b : Bool) (n : ℕ) (rows : List (Bool × ℕ)) → 0 < n → firstOf ((b, n) ∷ rows) ≡ 0 → firstOf rows ≡ 0
 rest-fails b n rows p e = rows-after b n 0 rows (λ z. ne-of-lt p (sym z)) e
-
--- tests 1 to 6 pass
-pub record Forms (periods reserves speeds volts : List ℕ) : Type 0 where
-  pub tasks-match : sameCount mostTasks periods reserves ≡ true
-  pub speeds-match : sameCount mostSpeeds speeds volts ≡ true
-  pub periods-allowed : every (upToMost mostPeriod) periods ≡ true
-  pub reserves-allowed : every (upToMost mostReserve) reserves ≡ true
-  pub speeds-rise : speedsRise 0 speeds ≡ true
-  pub volts-never-fall : voltsNeverFall 0 volts ≡ true
 
 -- tests 1 to 8 pass
 pub record Passes (periods reserves speeds volts : List ℕ) : Type 0 where

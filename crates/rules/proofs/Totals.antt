@@ -1,8 +1,8 @@
 -- The laws of `total`: over the places of a list, at its last place, of smaller terms, of a factor, after a store, of terms that differ at one place. By induction on the list or on its number of places.
 use mathlib.Core.Path.{_≡_, refl, sym, ap, _∙_}
 use mathlib.Core.List.{List, [], _∷_}
-use Prim.Native.Nat.{ℕ, zero, suc, suc-le-suc, _+_, _*_, _≤_, _<_}
-use native.Mathlib.Nat.{le-of-suc-le-suc, not-suc-le-zero, mul-zero, mul-add, le-refl}
+use Prim.Native.Nat.{ℕ, zero, suc, zero-le, suc-le-suc, _+_, _*_, _≤_, _<_}
+use native.Mathlib.Nat.{add-comm, add-le-add, zero-lt-suc, suc-mul, le-of-suc-le-suc, not-suc-le-zero, mul-zero, mul-add, le-refl}
 use native.Mathlib.Omega.{arith}
 use lib.ListN.{length, getD, set}
 use Rattle.rules.specs.Words.{upTo, total}
@@ -24,6 +24,14 @@ total-mono f g (suc n) h =
     let first : f 0 ≤ g 0 = h 0 (omega arith) in
     let rest : total (λ i. f (suc i)) (upTo n (λ i. i)) ≤ total (λ i. g (suc i)) (upTo n (λ i. i)) = total-mono (λ i. f (suc i)) (λ i. g (suc i)) n (λ i l. h (suc i) (suc-le-suc l)) in
     omega (arith, first, rest, total-places f suc n, total-places g suc n)
+
+-- a sum of n terms, each at most the most
+pub total-most : {A : Type 0} (f : A → ℕ) (most n : ℕ) (g : ℕ → A) → ((i : ℕ) → i < n → f (g i) ≤ most) → total f (upTo n g) ≤ n * most
+unfolding total upTo
+total-most f most zero g e = zero-le
+total-most f most (suc n) g e =
+    rw (suc-mul n most, add-comm (n * most) most)
+    (add-le-add (e 0 (zero-lt-suc n)) (total-most f most n (λ i. g (suc i)) (λ i h. e (suc i) (suc-le-suc h))))
 
 -- a factor of every term is one of the sum
 pub total-times : (k : ℕ) (f : ℕ → ℕ) (l : List ℕ) → total (λ i. k * f i) l ≡ k * total f l

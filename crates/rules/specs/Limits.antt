@@ -1,5 +1,5 @@
 -- "Ticks, cycles, volts": the table of what is allowed.
-use Prim.Native.Nat.{ℕ}
+use Prim.Native.Nat.{ℕ, _*_}
 use mathlib.Core.Bool.{Bool, _&&_}
 use lib.Dec.{leb}
 
@@ -34,6 +34,10 @@ mostGreat = 1_000_000
 -- ticks in one run: at most 1,000,000,000
 abbrev pub mostTicks : ℕ
 mostTicks = 1_000_000_000
+
+-- so one term of a load is at most this: a reserve in each of as many jobs as the great period has ticks
+abbrev pub mostTerm : ℕ
+mostTerm = mostReserve * mostGreat
 
 -- whether a number is from 1 to a limit: so all of the above but the great period and the ticks, which are only at most theirs
 unfoldable pub upToMost : ℕ → ℕ → Bool

@@ -1,5 +1,6 @@
 -- "Numbers a caller may see": for each call the smallest number that applies, and when a state is sound.
 use Prim.Native.Nat.{ℕ, _+_, _*_}
+use mathlib.Core.Path.{_≡_}
 use mathlib.Core.Bool.{Bool, true, cond, not, _&&_}
 use mathlib.Core.List.{List, [], _∷_}
 use lib.Dec.{eqb, ltb, leb}
@@ -41,6 +42,15 @@ startNumber periods reserves speeds volts =
     ∷ (ltb mostGreat (greatOf periods), 7)
     ∷ (not (admitted periods reserves speeds), 8)
     ∷ [])
+
+-- tests 1 to 6 pass
+pub record Forms (periods reserves speeds volts : List ℕ) : Type 0 where
+  pub tasks-match : sameCount mostTasks periods reserves ≡ true
+  pub speeds-match : sameCount mostSpeeds speeds volts ≡ true
+  pub periods-allowed : every (upToMost mostPeriod) periods ≡ true
+  pub reserves-allowed : every (upToMost mostReserve) reserves ≡ true
+  pub speeds-rise : speedsRise 0 speeds ≡ true
+  pub volts-never-fall : voltsNeverFall 0 volts ≡ true
 
 -- A state is sound when its tables pass 1 to 8,
 unfoldable pub tablesPass : State → Bool

@@ -2,7 +2,7 @@
 use mathlib.Core.Path.{_≡_, refl, sym, ap, ap₂, _∙_}
 use mathlib.Core.Bool.{Bool, true, false, false≢true, _&&_}
 use Prim.Native.Nat.{ℕ, _+_, _*_, _/_, _≤_, _<_}
-use native.Mathlib.Nat.{mul-le-mul, div-le-self, le-trans}
+use native.Mathlib.Nat.{le-trans}
 use native.Mathlib.Numerals.{add-one}
 use native.Mathlib.Omega.{arith}
 use borrow.Author.Tests.{le-leb, lt-leb}
@@ -11,12 +11,12 @@ use Rattle.rules.specs.declared.Tasks.{Tasks}
 use Rattle.rules.specs.declared.Jobs.{Jobs}
 use Rattle.rules.specs.declared.Job.{Job}
 use Rattle.rules.specs.Words.{every}
-use Rattle.rules.specs.Limits.{mostTasks, mostPeriod, mostReserve, mostGreat, upToMost}
+use Rattle.rules.specs.Limits.{mostTasks, mostPeriod, mostReserve, mostGreat, mostTerm, upToMost}
 use Rattle.rules.specs.State.{jobAt, jobsOf}
 use Rattle.rules.specs.Load.{useOf}
 use Rattle.rules.specs.Numbers.{unusedJob, runRight}
 use Rattle.rules.proofs.Lists.{both-left, both-right}
-use Rattle.rules.proofs.Loads.{mostTerm, use-most}
+use Rattle.rules.proofs.Loads.{use-most, term-most}
 use Rattle.rules.proofs.Ranges.{in-range, too-low, too-high, range-from, range-to}
 use Rattle.places.specs.Places.{jobRight, jobsPast}
 use Rattle.soundness.specs.declared.sums.Sums.{Sums}
@@ -57,14 +57,11 @@ module _ (j : Job) (e : jobRight j ≡ true) where
 
   -- each term is at most the most
   module _ (great : Ticks) (small : great .0 ≤ mostGreat) where
-    times-most : great .0 / j .period .0 ≤ mostGreat
-    times-most = le-trans (div-le-self (great .0) (j .period .0)) small
-
     pub full-term : j .reserve .0 * (great .0 / j .period .0) ≤ mostTerm
-    full-term = mul-le-mul reserve-most times-most
+    full-term = term-most (j .reserve .0) (great .0) (j .period .0) reserve-most small
 
     pub load-term : useOf j * (great .0 / j .period .0) ≤ mostTerm
-    load-term = mul-le-mul (le-trans (use-most j run-in) reserve-most) times-most
+    load-term = term-most (useOf j) (great .0) (j .period .0) (le-trans (use-most j run-in) reserve-most) small
 
 module _ (ts : Tasks) (js : Jobs) where
   -- one task more

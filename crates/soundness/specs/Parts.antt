@@ -10,11 +10,10 @@ use Rattle.rules.specs.declared.Tasks.{Tasks}
 use Rattle.rules.specs.declared.Jobs.{Jobs}
 use Rattle.rules.specs.declared.Job.{Job}
 use Rattle.rules.specs.Words.{every}
-use Rattle.rules.specs.Limits.{mostTasks, mostGreat, upToMost}
+use Rattle.rules.specs.Limits.{mostTasks, mostGreat, mostTerm, upToMost}
 use Rattle.rules.specs.State.{jobAt, jobsOf}
 use Rattle.rules.specs.Load.{useOf}
 use Rattle.rules.specs.Numbers.{unusedJob}
-use Rattle.rules.proofs.Loads.{mostTerm}
 use Rattle.places.specs.Places.{jobRight, jobsPast}
 use Rattle.soundness.specs.declared.sums.Sums.{Sums}
 use Rattle.soundness.specs.declared.sums.Summing.{Summing}

@@ -7,7 +7,8 @@ use native.Mathlib.Omega.{arith}
 use borrow.Author.Tests.{not-true, not-false}
 use Rattle.rules.specs.Admission.{greatOf}
 use Rattle.rules.specs.Limits.{mostSpeeds, mostGreat}
-use Rattle.rules.proofs.Tables.{Forms, match-some, number-7, number-8}
+use Rattle.rules.specs.Numbers.{Forms}
+use Rattle.rules.proofs.Tables.{match-some, number-7, number-8}
 use Rattle.admission.proofs.Great.{great-is, great-within, great-above}
 use Rattle.admission.proofs.Rows.{verdict-refused, verdict-passed, summable, admits-is}
 use Rattle.admission.proofs.judge.Statement.{statement}

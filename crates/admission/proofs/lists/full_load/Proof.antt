@@ -7,7 +7,8 @@ use lib.ListN.{length, drop}
 use Rattle.units.specs.Units.{cycles}
 use Rattle.rules.specs.Admission.{fullLoad}
 use Rattle.admission.specs.Parts.{fullLoadOf}
-use Rattle.admission.proofs.Sums.{mostTerm, full-on, full-end, period-pos, term-most}
+use Rattle.rules.specs.Limits.{mostTerm}
+use Rattle.admission.proofs.Sums.{full-on, full-end, period-pos, full-term}
 use Rattle.admission.proofs.lists.full_load.Statement.{statement}
 use Rattle.admission.proofs.lists.full_load.Tie as tie
 
@@ -51,7 +52,7 @@ mul-t13 c =
     let w = at .loop in
     let h = c .before .before .before .before .before .loop-test .taken in
     let s = at .before .pre in
-    omega (arith, term-most (a .great) (a .periods .now) (a .reserves .now) s (w .i) h)
+    omega (arith, full-term (a .great) (a .periods .now) (a .reserves .now) s (w .i) h)
 
 add-t14 : tie.Need-add-t14 Inv-loop μ-loop
 add-t14 c =
@@ -60,7 +61,7 @@ add-t14 c =
     let w = at .loop in
     let h = c .before .before .before .before .before .before .loop-test .taken in
     let s = at .before .pre in
-    omega (arith, s .few, term-most (a .great) (a .periods .now) (a .reserves .now) s (w .i) h)
+    omega (arith, s .few, full-term (a .great) (a .periods .now) (a .reserves .now) s (w .i) h)
 
 add-i : tie.Need-add-i Inv-loop μ-loop
 add-i c = search needs
@@ -77,7 +78,7 @@ loop-again c =
     let s = at .before .pre in
     let k : w .i < length (a .reserves .now) = omega (arith, s .paired) in (
       omega arith,
-      omega (arith, term-most (a .great) (a .periods .now) (a .reserves .now) s (w .i) h),
+      omega (arith, full-term (a .great) (a .periods .now) (a .reserves .now) s (w .i) h),
       omega (arith, w .inv .2, full-on (a .great) (a .periods .now) (a .reserves .now) (w .i) h k),
     )
 
