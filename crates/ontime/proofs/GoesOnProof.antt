@@ -1,6 +1,6 @@
 -- Releases, vanishing and joins keep the books in order: a place that stays is the same on both sides; one that is renewed or joins had no room left and owes no more than its new room; one that is gone or was never there has nothing on either side.
 use mathlib.Core.Path.{_≡_, sym, ap, _∙_}
-use mathlib.Core.Bool.{Bool, false, _&&_}
+use mathlib.Core.Bool.{false, _&&_}
 use mathlib.Core.Logic.{_⊎_, inl, inr}
 use Prim.Native.Nat.{ℕ, _+_, _-_, _≤_}
 use native.Mathlib.Nat.{add-sub-cancel-left}
@@ -8,10 +8,10 @@ use native.Mathlib.Omega.{arith}
 use lib.Dec.{leb}
 use Rattle.units.specs.declared.Ticks.{Ticks}
 use Rattle.rules.specs.declared.Jobs.{Jobs}
-use Rattle.rules.specs.declared.Job.{Job}
 use Rattle.rules.proofs.Totals.{total-mono}
 use Rattle.ontime.specs.OnTime.{Course, sumTo, counts, owes, room, owedAt, roomAt, CoveredFrom, jobOf, Same, Fresh, Closed, GoesOn, ReleasesKeep}
 use Rattle.ontime.proofs.Sums.{sum-add}
+use Rattle.ontime.proofs.SamePlaces.{owes-same, room-same}
 use Rattle.ontime.proofs.OneJob.{none-owes, none-room, no-room, fresh-room}
 
 -- from jobs js of a course to another one with the same H
@@ -19,25 +19,11 @@ module _ (c : Course) (js : Jobs) (e : Course) (great : e .tasks .great ≡ c .t
   great-is : e .tasks .great .0 ≡ c .tasks .great .0
   great-is = ap (λ (x : Ticks). x .0) great
 
-  module _ (s : Same c js e i) where
-    counts-is : counts e d i ≡ counts c d i
-    unfolding Same counts
-    counts-is = rw (s .0, s .1)
+  same-owes : Same c js e i → owedAt e (e .jobs) d i ≡ owedAt c js d i
+  same-owes s = owes-same c js e d i s ∙ ap (λ g. owes g (counts c d i) (jobOf c js i)) great-is
 
-    same-owes : owedAt e (e .jobs) d i ≡ owedAt c js d i
-    unfolding Same
-    same-owes =
-        ap (λ (j : Job). owes (e .tasks .great .0) (counts e d i) j) (s .2)
-        ∙ ap (λ (b : Bool). owes (e .tasks .great .0) b (jobOf c js i)) counts-is
-        ∙ ap (λ g. owes g (counts c d i) (jobOf c js i)) great-is
-
-    same-room : roomAt e (e .jobs) (e .tick) d i ≡ roomAt c js (e .tick) d i
-    unfolding Same
-    same-room =
-        ap (λ (j : Job). room (e .tasks .great .0) (counts e d i) (e .due i - e .tick) j) (s .2)
-        ∙ ap (λ (b : Bool). room (e .tasks .great .0) b (e .due i - e .tick) (jobOf c js i)) counts-is
-        ∙ ap (λ g. room g (counts c d i) (e .due i - e .tick) (jobOf c js i)) great-is
-        ∙ ap (λ x. room (c .tasks .great .0) (counts c d i) (x - e .tick) (jobOf c js i)) (s .1)
+  same-room : Same c js e i → roomAt e (e .jobs) (e .tick) d i ≡ roomAt c js (e .tick) d i
+  same-room s = room-same c js e d i s ∙ ap (λ g. room g (counts c d i) (c .due i - e .tick) (jobOf c js i)) great-is
 
   -- a place that is empty, or whose job was due by then, has no room
   closed-room : Closed c (e .tick) i → roomAt c js (e .tick) d i ≡ 0

@@ -1,4 +1,4 @@
--- A change of H to a multiple of it multiplies both sides of the books.
+-- A change of H to a multiple of it multiplies both sides of the books: place by place, since each period divides the smaller H.
 use mathlib.Core.Path.{_≡_, refl, sym, ap, _∙_}
 use mathlib.Core.Bool.{Bool, true, false, cond, not, _&&_}
 use Prim.Native.Nat.{ℕ, _-_, _*_, _/_, _≤_, _<_}
@@ -13,6 +13,7 @@ use Rattle.rules.proofs.Lists.{both-left}
 use Rattle.rules.proofs.Totals.{total-times}
 use Rattle.ontime.specs.OnTime.{Course, sumTo, counts, owes, room, owedAt, roomAt, CoveredFrom, jobOf, Same, AnyMultipleWillDo}
 use Rattle.ontime.proofs.Sums.{sum-same}
+use Rattle.ontime.proofs.SamePlaces.{owes-same, room-same}
 
 -- a quotient of a multiple
 times-quotient : (great k p : ℕ) → 1 ≤ p → great / p * p ≡ great → k * great / p ≡ k * (great / p)
@@ -40,15 +41,9 @@ module _ (great k : ℕ) (b : Bool) (j : Job) where
 module _ (c e : Course) (k : ℕ) (more : e .tasks .great .0 ≡ k * c .tasks .great .0) (places : e .places ≡ c .places) (tick : e .tick ≡ c .tick)
     (same : (i : ℕ) → i < c .places → Same c (c .jobs) e i)
     (whole : (i : ℕ) → i < c .places → c .held i ≡ true → (1 ≤ jobOf c (c .jobs) i .period .0) × (c .tasks .great .0 / jobOf c (c .jobs) i .period .0 * jobOf c (c .jobs) i .period .0 ≡ c .tasks .great .0)) (d : ℕ) where
-  counts-is : (i : ℕ) → i < c .places → counts e d i ≡ counts c d i
-  unfolding Same counts
-  counts-is i l = rw (same i l .0, same i l .1)
-
   one-owes : (i : ℕ) → i < c .places → owedAt e (e .jobs) d i ≡ k * owedAt c (c .jobs) d i
-  unfolding Same
   one-owes i l =
-      ap (λ (j : Job). owes (e .tasks .great .0) (counts e d i) j) (same i l .2)
-      ∙ ap (λ (b : Bool). owes (e .tasks .great .0) b (jobOf c (c .jobs) i)) (counts-is i l)
+      owes-same c (c .jobs) e d i (same i l)
       ∙ ap (λ g. owes g (counts c d i) (jobOf c (c .jobs) i)) more
       ∙ owes-times (c .tasks .great .0) k (counts c d i) (jobOf c (c .jobs) i)
 
@@ -57,12 +52,9 @@ module _ (c e : Course) (k : ℕ) (more : e .tasks .great .0 ≡ k * c .tasks .g
   is-held i h = both-left (c .held i) (leb (c .due i) d) h
 
   one-room : (i : ℕ) → i < c .places → roomAt e (e .jobs) (e .tick) d i ≡ k * roomAt c (c .jobs) (c .tick) d i
-  unfolding Same
   one-room i l =
-      ap (λ (j : Job). room (e .tasks .great .0) (counts e d i) (e .due i - e .tick) j) (same i l .2)
-      ∙ ap (λ (b : Bool). room (e .tasks .great .0) b (e .due i - e .tick) (jobOf c (c .jobs) i)) (counts-is i l)
-      ∙ ap (λ g. room g (counts c d i) (e .due i - e .tick) (jobOf c (c .jobs) i)) more
-      ∙ ap (λ x. room (k * c .tasks .great .0) (counts c d i) (x - e .tick) (jobOf c (c .jobs) i)) (same i l .1)
+      room-same c (c .jobs) e d i (same i l)
+      ∙ ap (λ g. room g (counts c d i) (c .due i - e .tick) (jobOf c (c .jobs) i)) more
       ∙ ap (λ x. room (k * c .tasks .great .0) (counts c d i) (c .due i - x) (jobOf c (c .jobs) i)) tick
       ∙ room-times (c .tasks .great .0) k (counts c d i) (jobOf c (c .jobs) i) (c .due i - c .tick) (λ h. whole i l (is-held i h))
 

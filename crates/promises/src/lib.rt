@@ -3,7 +3,7 @@
 //
 //   Runs         what a run is: a table that start accepts, any calls of tick, the accepted ones as steps   (RunLaws, StartLaws)
 //   NeverLate    demand 3: at each release the previous job is over; the step, for any speed that carries the load
-//                (one job: Books, OneJob, Renews; the order: Levels, Pays; a tick: TickBooks; a run: Invariant, OnTimeProof)
+//                (a tick, by the step that the crate ontime proves: PlainCourse; a run: Invariant, OnTimeProof)
 //   ExactCycles  demand 3: each job has exactly its cycles, by the grants and entries of its window
 //                (one tick: SettledPlaces, Portions, StepPlaces; a run: Windows, ExactProof)
 //   TurnedAway   demand 3: where start answers 8, every way to run the table starves a job   (Starves)
@@ -13,4 +13,4 @@
 //   StaysSound   a run never meets 9 or 12, and goes on to its last tick   (GoesOn, SoundRuns)
 //   EitherSide   document 01's table (a) to (l)   (EitherSideRows)
 //
-// Sums has the laws of sums over places. That each call has one answer is proved in the crate answers.
+// The laws of sums over places are those of ontime (Sums). That each call has one answer is proved in the crate answers.
