@@ -1,18 +1,14 @@
 -- One turn of each walk over a list: what is left of the test, in the rest-form that the loops keep.
-use mathlib.Core.Path.{_≡_, refl, sym, _∙_}
-use mathlib.Core.Bool.{Bool, true, false}
-use mathlib.Core.List.{List, [], _∷_}
+use mathlib.Core.Path.{_≡_}
+use mathlib.Core.Bool.{true, false}
+use mathlib.Core.List.{List}
 use Prim.Native.Nat.{ℕ, _+_, _≤_, _<_}
-use native.Mathlib.Nat.{add-zero}
-use native.Mathlib.Omega.{arith}
-use lib.Dec.{eqb, leb, ltb}
+use lib.Dec.{eqb}
 use lib.ListN.{length, getD, drop, drop-of-length-le}
-use borrow.Author.Tests.{le-leb, lt-leb, lt-ltb, le-ltb}
-use Rattle.rules.specs.Limits.{mostSpeed, mostVolts}
-use Rattle.rules.specs.Numbers.{sameCount, speedsRise, voltsNeverFall}
+use borrow.Author.Tests.{le-leb, lt-leb}
+use Rattle.rules.specs.Numbers.{sameCount, climbsFrom}
 use Rattle.rules.proofs.Lists.{rest-cons}
 use Rattle.rules.proofs.Ranges.{in-range, too-low, too-high}
-use Rattle.admission.specs.Parts.{climbsFrom}
 
 -- `counts_match`: too few, too many, or as the second list says
 pub none-match : (most : ℕ) (xs ys : List ℕ) → length xs < 1 → false ≡ sameCount most xs ys
@@ -48,21 +44,3 @@ module _ (most gap before : ℕ) (l : List ℕ) (i : ℕ) where
   pub climb-end : length l ≤ i → climbsFrom most gap before (drop i l) ≡ true
   unfolding climbsFrom
   climb-end h = rw (drop-of-length-le l {i = i} h)
-
--- above the one before is at least 1 above it; not below it is at least 0 above it
-above-is : (a b : ℕ) → leb (a + 1) b ≡ ltb a b
-above-is a b = go (leb (a + 1) b) refl
-  where
-    go : (t : Bool) → leb (a + 1) b ≡ t → leb (a + 1) b ≡ ltb a b
-    go true e = e ∙ sym (lt-ltb a b (omega (arith, borrow.Author.Tests.leb-true (a + 1) b e)))
-    go false e = e ∙ sym (le-ltb a b (omega (arith, borrow.Author.Tests.leb-false (a + 1) b e)))
-
-pub speeds-climb : (before : ℕ) (l : List ℕ) → climbsFrom mostSpeed 1 before l ≡ speedsRise before l
-unfolding climbsFrom speedsRise
-speeds-climb before [] = refl
-speeds-climb before (x ∷ l) = rw (above-is before x, speeds-climb x l)
-
-pub volts-climb : (before : ℕ) (l : List ℕ) → climbsFrom mostVolts 0 before l ≡ voltsNeverFall before l
-unfolding climbsFrom voltsNeverFall
-volts-climb before [] = refl
-volts-climb before (x ∷ l) = rw (add-zero before, volts-climb x l)

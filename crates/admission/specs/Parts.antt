@@ -1,9 +1,8 @@
 -- What admission's private functions answer and ask: nothing here is part of what it promises to callers.
-use Prim.Native.Nat.{ℕ, _+_, _≤_}
+use Prim.Native.Nat.{ℕ, _≤_}
 use mathlib.Core.Path.{_≡_}
-use mathlib.Core.Bool.{Bool, true, _&&_}
-use mathlib.Core.List.{List, [], _∷_}
-use lib.Dec.{leb}
+use mathlib.Core.Bool.{true}
+use mathlib.Core.List.{List}
 use lib.ListN.{length}
 use Rattle.units.specs.Units.{cycles}
 use Rattle.units.specs.declared.Ticks.{Ticks}
@@ -12,11 +11,6 @@ use Rattle.rules.specs.Words.{every}
 use Rattle.rules.specs.Limits.{mostTasks, mostPeriod, mostReserve, mostGreat, upToMost}
 use Rattle.rules.specs.Admission.{fullLoad}
 use Rattle.rules.specs.Numbers.{startNumber, Forms}
-
--- No. 5, 6: each number from 1 to the most and at least `gap` above the one before
-unfoldable pub climbsFrom : ℕ → ℕ → ℕ → List ℕ → Bool
-climbsFrom most gap before [] = true
-climbsFrom most gap before (x ∷ xs) = upToMost most x && leb (before + gap) x && climbsFrom most gap x xs
 
 -- the sum of rule 7 as a count of cycles
 unfoldable pub fullLoadOf : List ℕ → List ℕ → Ticks → Cycles

@@ -3,8 +3,8 @@ ghost use mathlib.Core.Path.{_≡_};
 ghost use Prim.Native.Nat.{_≤_};
 ghost use Rattle.rules.specs.Words.{every};
 ghost use Rattle.rules.specs.Limits.{upToMost};
-ghost use Rattle.rules.specs.Numbers.{sameCount};
-ghost use Rattle.admission.specs.Parts.{climbsFrom, Summable, fullLoadOf};
+ghost use Rattle.rules.specs.Numbers.{sameCount, climbsFrom};
+ghost use Rattle.admission.specs.Parts.{Summable, fullLoadOf};
 use units::Cycles;
 use units::Ticks;
 

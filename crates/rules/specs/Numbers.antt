@@ -19,15 +19,18 @@ use Rattle.rules.specs.Admission.{greatOf, admitted}
 unfoldable pub sameCount : ℕ → List ℕ → List ℕ → Bool
 sameCount most xs ys = upToMost most (length xs) && eqb (length ys) (length xs)
 
+-- No. 5, 6: each number from 1 to `most`, and at least `gap` above the one before
+unfoldable pub climbsFrom : ℕ → ℕ → ℕ → List ℕ → Bool
+climbsFrom most gap before [] = true
+climbsFrom most gap before (x ∷ xs) = upToMost most x && leb (before + gap) x && climbsFrom most gap x xs
+
 -- No. 5: each speed in its range and above the one before
 unfoldable pub speedsRise : ℕ → List ℕ → Bool
-speedsRise before [] = true
-speedsRise before (s ∷ ss) = upToMost mostSpeed s && ltb before s && speedsRise s ss
+speedsRise before speeds = climbsFrom mostSpeed 1 before speeds
 
 -- No. 6: each volt value in its range and not below the one before
 unfoldable pub voltsNeverFall : ℕ → List ℕ → Bool
-voltsNeverFall before [] = true
-voltsNeverFall before (v ∷ vs) = upToMost mostVolts v && leb before v && voltsNeverFall v vs
+voltsNeverFall before volts = climbsFrom mostVolts 0 before volts
 
 -- the numbers of start
 unfoldable pub startNumber : List ℕ → List ℕ → List ℕ → List ℕ → ℕ

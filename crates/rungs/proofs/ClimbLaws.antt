@@ -1,18 +1,18 @@
--- Speeds and volts that go up: none is past its limit if the last is not, so the limits wait until the end of the walk.
+-- Numbers that climb, speeds by 1 and volts by 0: none is past its limit if the last is not, so the limits wait until the end of the walk.
 use mathlib.Core.Path.{_≡_, refl, _∙_}
 use mathlib.Core.Bool.{Bool, true, false, _&&_}
 use mathlib.Core.List.{List, [], _∷_}
 use Prim.Native.Nat.{ℕ, _+_, _≤_, _<_}
 use native.Mathlib.Omega.{arith}
-use lib.Dec.{leb, ltb}
+use lib.Dec.{leb}
 use lib.ListN.{getD, drop}
-use borrow.Author.Tests.{leb-true, le-leb, lt-leb, lt-ltb, le-ltb}
+use borrow.Author.Tests.{leb-true, le-leb, lt-leb}
 use Rattle.units.specs.Units.{speed, volts}
 use Rattle.units.specs.declared.Speed.{Speed}
 use Rattle.units.specs.declared.Volts.{Volts}
 use Rattle.rules.specs.Words.{upTo}
 use Rattle.rules.specs.Limits.{mostSpeed, mostVolts, upToMost}
-use Rattle.rules.specs.Numbers.{speedsRise, voltsNeverFall}
+use Rattle.rules.specs.Numbers.{climbsFrom, speedsRise, voltsNeverFall}
 use Rattle.rules.proofs.Lists.{upTo-rest, upTo-end}
 use Rattle.rungs.specs.Parts.{climbing}
 
@@ -21,58 +21,39 @@ second : (a b : Bool) → b ≡ false → (a && b) ≡ false
 second true b e = e
 second false b e = refl
 
--- the speed before is in its range, and so are those that follow; the same of volts
-unfoldable pub speedsUp : ℕ → List ℕ → Bool
-speedsUp low ss = leb low mostSpeed && speedsRise low ss
+-- the number before is in its range, and so are those that follow
+unfoldable pub upFrom : ℕ → ℕ → ℕ → List ℕ → Bool
+upFrom most gap before l = leb before most && climbsFrom most gap before l
 
-unfoldable pub voltsUp : ℕ → List ℕ → Bool
-voltsUp faint vs = leb faint mostVolts && voltsNeverFall faint vs
+module _ (most gap before x : ℕ) (l : List ℕ) where
+  -- a number far enough above the one before: its own range is what is left to test of both
+  up-on : 1 ≤ x → before + gap ≤ x → upFrom most gap before (x ∷ l) ≡ upFrom most gap x l
+  unfolding upFrom climbsFrom upToMost
+  up-on some h = go (leb x most) refl
+    where
+      go : (b : Bool) → leb x most ≡ b → (leb before most && (leb 1 x && leb x most && leb (before + gap) x && climbsFrom most gap x l)) ≡ (leb x most && climbsFrom most gap x l)
+      go true e =
+          let m : x ≤ most = leb-true x most e in
+          rw (e, le-leb before most (omega arith), le-leb 1 x some, le-leb (before + gap) x h)
+      go false e = rw (e, le-leb 1 x some) (second (leb before most) false refl)
 
--- a speed above the one before: its own range is what is left to test of both
-speeds-on : (low s : ℕ) (ss : List ℕ) → low < s → speedsUp low (s ∷ ss) ≡ speedsUp s ss
-unfolding speedsUp speedsRise upToMost
-speeds-on low s ss h = go (leb s mostSpeed) refl
-  where
-    go : (b : Bool) → leb s mostSpeed ≡ b → (leb low mostSpeed && (leb 1 s && leb s mostSpeed && ltb low s && speedsRise s ss)) ≡ (leb s mostSpeed && speedsRise s ss)
-    go true e =
-        let m : s ≤ mostSpeed = leb-true s mostSpeed e in
-        rw (e, le-leb low mostSpeed (omega arith), le-leb 1 s (omega arith), lt-ltb low s h)
-    go false e = rw (e, le-leb 1 s (omega arith)) (second (leb low mostSpeed) false refl)
-
-speeds-stop : (low s : ℕ) (ss : List ℕ) → s ≤ low → speedsUp low (s ∷ ss) ≡ false
-unfolding speedsUp speedsRise
-speeds-stop low s ss h =
-    second (leb low mostSpeed) (upToMost mostSpeed s && ltb low s && speedsRise s ss)
-    (rw (second (upToMost mostSpeed s) (ltb low s) (le-ltb low s h)))
-
--- a volt value not below the one before, which is at least 1
-volts-on : (faint v : ℕ) (vs : List ℕ) → 1 ≤ faint → faint ≤ v → voltsUp faint (v ∷ vs) ≡ voltsUp v vs
-unfolding voltsUp voltsNeverFall upToMost
-volts-on faint v vs a h = go (leb v mostVolts) refl
-  where
-    go : (b : Bool) → leb v mostVolts ≡ b → (leb faint mostVolts && (leb 1 v && leb v mostVolts && leb faint v && voltsNeverFall v vs)) ≡ (leb v mostVolts && voltsNeverFall v vs)
-    go true e =
-        let m : v ≤ mostVolts = leb-true v mostVolts e in
-        rw (e, le-leb faint mostVolts (omega arith), le-leb 1 v (omega arith), le-leb faint v h)
-    go false e = rw (e, le-leb 1 v (omega arith)) (second (leb faint mostVolts) false refl)
-
-volts-stop : (faint v : ℕ) (vs : List ℕ) → v < faint → voltsUp faint (v ∷ vs) ≡ false
-unfolding voltsUp voltsNeverFall
-volts-stop faint v vs h =
-    second (leb faint mostVolts) (upToMost mostVolts v && leb faint v && voltsNeverFall v vs)
-    (rw (second (upToMost mostVolts v) (leb faint v) (lt-leb faint v h)))
+  up-stop : x < before + gap → upFrom most gap before (x ∷ l) ≡ false
+  unfolding upFrom climbsFrom
+  up-stop h =
+      second (leb before most) (upToMost most x && leb (before + gap) x && climbsFrom most gap x l)
+      (rw (second (upToMost most x) (leb (before + gap) x) (lt-leb (before + gap) x h)))
 
 -- no speed and 1 tenth of a volt before the first: as no speed and no volts
-speeds-from : (ss : List ℕ) → speedsRise 0 ss ≡ speedsUp 0 ss
-unfolding speedsUp
+speeds-from : (ss : List ℕ) → speedsRise 0 ss ≡ upFrom mostSpeed 1 0 ss
+unfolding upFrom speedsRise
 speeds-from ss = refl
 
-volts-from : (vs : List ℕ) → voltsNeverFall 0 vs ≡ voltsUp 1 vs
-unfolding voltsUp voltsNeverFall upToMost
+volts-from : (vs : List ℕ) → voltsNeverFall 0 vs ≡ upFrom mostVolts 0 1 vs
+unfolding upFrom voltsNeverFall climbsFrom upToMost
 volts-from [] = refl
 volts-from (v ∷ vs) = go (leb 1 v) refl
   where
-    go : (b : Bool) → leb 1 v ≡ b → (leb 1 v && leb v mostVolts && leb 0 v && voltsNeverFall v vs) ≡ (leb 1 v && leb v mostVolts && leb 1 v && voltsNeverFall v vs)
+    go : (b : Bool) → leb 1 v ≡ b → (leb 1 v && leb v mostVolts && leb 0 v && climbsFrom mostVolts 0 v vs) ≡ (leb 1 v && leb v mostVolts && leb 1 v && climbsFrom mostVolts 0 v vs)
     go true e = rw (e, le-leb 0 v (omega arith))
     go false e = rw e
 
@@ -85,7 +66,7 @@ module _ (n : ℕ) (ss : List Speed) (vs : List Volts) where
   v k = getD vs k (volts 0) .0
 
   unfoldable pub climbingUp : ℕ → ℕ → ℕ → Bool
-  climbingUp low faint i = speedsUp low (drop i (upTo n s)) && voltsUp faint (drop i (upTo n v))
+  climbingUp low faint i = upFrom mostSpeed 1 low (drop i (upTo n s)) && upFrom mostVolts 0 faint (drop i (upTo n v))
 
   pub climb-from : climbing n ss vs 0 0 0 ≡ climbingUp 0 1 0
   unfolding climbing climbingUp
@@ -95,21 +76,21 @@ module _ (n : ℕ) (ss : List Speed) (vs : List Volts) where
     pub climb-on : i < n → low < s i → 1 ≤ faint → faint ≤ v i → climbingUp low faint i ≡ climbingUp (s i) (v i) (i + 1)
     unfolding climbingUp
     climb-on h a f b =
-        rw (upTo-rest n s i h, upTo-rest n v i h, speeds-on low (s i) (drop (i + 1) (upTo n s)) a, volts-on faint (v i) (drop (i + 1) (upTo n v)) f b)
+        rw (upTo-rest n s i h, upTo-rest n v i h, up-on mostSpeed 1 low (s i) (drop (i + 1) (upTo n s)) (omega arith) (omega arith), up-on mostVolts 0 faint (v i) (drop (i + 1) (upTo n v)) (omega arith) (omega arith))
 
     pub climb-slow : i < n → s i ≤ low → climbingUp low faint i ≡ false
     unfolding climbingUp
-    climb-slow h a = rw (upTo-rest n s i h, speeds-stop low (s i) (drop (i + 1) (upTo n s)) a)
+    climb-slow h a = rw (upTo-rest n s i h, up-stop mostSpeed 1 low (s i) (drop (i + 1) (upTo n s)) (omega arith))
 
     pub climb-faint : i < n → v i < faint → climbingUp low faint i ≡ false
     unfolding climbingUp
     climb-faint h b =
-        second (speedsUp low (drop i (upTo n s))) (voltsUp faint (drop i (upTo n v)))
-        (rw (upTo-rest n v i h) (volts-stop faint (v i) (drop (i + 1) (upTo n v)) b))
+        second (upFrom mostSpeed 1 low (drop i (upTo n s))) (upFrom mostVolts 0 faint (drop i (upTo n v)))
+        (rw (upTo-rest n v i h) (up-stop mostVolts 0 faint (v i) (drop (i + 1) (upTo n v)) (omega arith)))
 
     -- at the end the limits are left
     climb-end : n ≤ i → climbingUp low faint i ≡ (leb low mostSpeed && true && (leb faint mostVolts && true))
-    unfolding climbingUp speedsUp voltsUp speedsRise voltsNeverFall
+    unfolding climbingUp upFrom climbsFrom
     climb-end h = rw (upTo-end n s i h, upTo-end n v i h)
 
     pub climb-fast : n ≤ i → mostSpeed < low → climbingUp low faint i ≡ false

@@ -4,7 +4,7 @@ use mathlib.Core.Path.{_≡_, refl, sym, _∙_}
 use Prim.Native.Nat.{_-_, _≤_}
 use native.Mathlib.Omega.{arith}
 use lib.ListN.{length, drop}
-use Rattle.admission.specs.Parts.{climbsFrom}
+use Rattle.rules.specs.Numbers.{climbsFrom}
 use Rattle.admission.proofs.Walks.{climb-on, climb-low, climb-high, climb-short, climb-end}
 use Rattle.admission.proofs.lists.climbs.Statement.{statement}
 use Rattle.admission.proofs.lists.climbs.Tie as tie

@@ -11,7 +11,6 @@ use Rattle.rules.specs.Limits.{mostTasks, mostSpeeds, mostPeriod, mostReserve, 
 use Rattle.rules.specs.Numbers.{sameCount, speedsRise, voltsNeverFall}
 use Rattle.rules.proofs.Tables.{number-1, number-2, number-3, number-4, number-5, number-6}
 use Rattle.admission.proofs.Rows.{stops}
-use Rattle.admission.proofs.Walks.{speeds-climb, volts-climb}
 use Rattle.admission.proofs.tests.form_number.Statement.{statement}
 use Rattle.admission.proofs.tests.form_number.Tie as tie
 
@@ -42,10 +41,12 @@ reserves-allowed : (c : tie.Else4) → every (upToMost mostReserve) (cs (c .befo
 reserves-allowed c = sym (c .before .all-allowed2 .ensures) ∙ not-false _ (c .if4 .left)
 
 speeds-rise : (c : tie.Else5) → speedsRise 0 (ss (c .before .before .before .before .before .before .before .before .before .before .before .before .before .before)) ≡ true
-speeds-rise c = sym (speeds-climb 0 _) ∙ sym (c .before .climbs .ensures) ∙ not-false _ (c .if5 .left)
+unfolding speedsRise
+speeds-rise c = sym (c .before .climbs .ensures) ∙ not-false _ (c .if5 .left)
 
 volts-never-fall : (c : tie.Else6) → voltsNeverFall 0 (vs (c .before .before .before .before .before .before .before .before .before .before .before .before .before .before .before .before)) ≡ true
-volts-never-fall c = sym (volts-climb 0 _) ∙ sym (c .before .climbs2 .ensures) ∙ not-false _ (c .if6 .left)
+unfolding voltsNeverFall
+volts-never-fall c = sym (c .before .climbs2 .ensures) ∙ not-false _ (c .if6 .left)
 
 counts-match-requires : tie.Need-counts-match-requires
 counts-match-requires c κs = search needs
@@ -83,17 +84,19 @@ climbs-requires : tie.Need-climbs-requires
 climbs-requires c κs = search needs
 
 returns-5 : tie.Need-returns-5
+unfolding speedsRise
 returns-5 c =
     stops _ _ _ _ 5 (lit< tt)
-    (number-5 _ _ _ _ (tasks-match (c .before .before .before .before .before .before .before .before)) (speeds-match (c .before .before .before .before .before .before)) (periods-allowed (c .before .before .before .before)) (reserves-allowed (c .before .before)) (sym (speeds-climb 0 _) ∙ sym (c .before .climbs .ensures) ∙ not-true _ (c .if5 .taken)))
+    (number-5 _ _ _ _ (tasks-match (c .before .before .before .before .before .before .before .before)) (speeds-match (c .before .before .before .before .before .before)) (periods-allowed (c .before .before .before .before)) (reserves-allowed (c .before .before)) (sym (c .before .climbs .ensures) ∙ not-true _ (c .if5 .taken)))
 
 climbs-requires-2 : tie.Need-climbs-requires-2
 climbs-requires-2 c κs = search needs
 
 returns-6 : tie.Need-returns-6
+unfolding voltsNeverFall
 returns-6 c =
     stops _ _ _ _ 6 (lit< tt)
-    (number-6 _ _ _ _ (tasks-match (c .before .before .before .before .before .before .before .before .before .before)) (speeds-match (c .before .before .before .before .before .before .before .before)) (periods-allowed (c .before .before .before .before .before .before)) (reserves-allowed (c .before .before .before .before)) (speeds-rise (c .before .before)) (sym (volts-climb 0 _) ∙ sym (c .before .climbs2 .ensures) ∙ not-true _ (c .if6 .taken)))
+    (number-6 _ _ _ _ (tasks-match (c .before .before .before .before .before .before .before .before .before .before)) (speeds-match (c .before .before .before .before .before .before .before .before)) (periods-allowed (c .before .before .before .before .before .before)) (reserves-allowed (c .before .before .before .before)) (speeds-rise (c .before .before)) (sym (c .before .climbs2 .ensures) ∙ not-true _ (c .if6 .taken)))
 
 returns-7 : tie.Need-returns-7
 returns-7 c =
