@@ -5,9 +5,9 @@ use mathlib.Core.List.{List}
 use Prim.Native.Nat.{ℕ, zero, suc, _+_, _-_, _≤_, _<_, min}
 use native.Mathlib.Decide.{ℕ-discrete}
 use native.Mathlib.Omega.{arith}
-use lib.Dec.{eqb, ltb, leb}
+use lib.Dec.{eqb}
 use lib.ListN.{getD}
-use borrow.Author.Tests.{eqb-true, eq-eqb, ne-eqb, ltb-true}
+use borrow.Author.Tests.{eqb-true, eq-eqb, ne-eqb}
 use Rattle.rules.specs.declared.Job.{Job}
 use Rattle.rules.specs.declared.Settling.{Settling}
 use Rattle.rules.specs.declared.State.{State}
@@ -16,12 +16,12 @@ use Rattle.rules.specs.State.{Shaped, jobAt}
 use Rattle.rules.specs.Choice.{orderBy, deadlineAt, readyAt, orderOf}
 use Rattle.rules.specs.Settlement.{byBullet, remaining, usesUp, allowed, granted, isOver, overEntriesZero, atTickStart, settled, keepsRule4}
 use Rattle.rules.specs.Numbers.{runRight}
-use Rattle.rules.proofs.Lists.{both-left, upTo-at}
+use Rattle.rules.proofs.Lists.{upTo-at}
 use Rattle.rules.proofs.Totals.{total-last}
 use Rattle.rules.proofs.Orders.{every-mono, total-insert, order-in, order-out, order-ready}
 use Rattle.rules.proofs.Stores.{withRun}
 use Rattle.rules.proofs.Places.{run-below, run-most}
-use Rattle.rules.proofs.Shares.{settledJob, granted-right}
+use Rattle.rules.proofs.Shares.{settledJob, granted-right, nothing-left, entry-u, above-run}
 use Rattle.rules.proofs.Settles.{Settles}
 use Rattle.rules.proofs.Keeps.{jobs-right, over-zeros, all-allowed, settles-start}
 use Rattle.rules.proofs.Soundness.{Sound}
@@ -80,15 +80,18 @@ module _ (left u : ℕ) (j : Job) where
 
   -- with another entry it is over at that entry, and something was left
   over-at-entry : allowed left u j ≡ true → (u ≡ 0 → ⊥) → (j .run .0 + granted left u j ≡ u) × (isOver left u j ≡ true)
-  unfolding allowed granted isOver byBullet
-  over-at-entry a n = rw (ne-eqb u 0 n) (go (eqb left 0) (rw (ne-eqb u 0 n) at a))
+  unfolding allowed granted isOver
+  over-at-entry a n = go (eqb left 0) refl
     where
-      go : (b : Bool) → cond b false (ltb (j .run .0) u && leb u (j .reserve .0) && leb (u - j .run .0) left) ≡ true → (j .run .0 + cond b 0 (u - j .run .0) ≡ u) × (cond b false true ≡ true)
-      go true e = absurd (false≢true e)
-      go false e =
-          let range = both-left (ltb (j .run .0) u && leb u (j .reserve .0)) (leb (u - j .run .0) left) e in
-          let above = ltb-true (j .run .0) u (both-left (ltb (j .run .0) u) (leb u (j .reserve .0)) range) in
-          (omega (arith, above), refl)
+      some : eqb u 0 ≡ false
+      some = ne-eqb u 0 n
+
+      go : (b : Bool) → eqb left 0 ≡ b → (j .run .0 + granted left u j ≡ u) × (isOver left u j ≡ true)
+      go true e = absurd (false≢true (sym some ∙ sym (nothing-left left u _ _ _ e) ∙ a))
+      go false e = (
+        ap (λ g. j .run .0 + g) (entry-u left u _ _ _ e some) ∙ omega (arith, above-run left u j e some a .0),
+        entry-u left u _ _ _ e some,
+      )
 
   -- both together
   ready-portion : runRight j ≡ true → j .over ≡ false → allowed left u j ≡ true → Portion u (granted left u j) j (settledJob left u j)

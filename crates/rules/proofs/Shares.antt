@@ -19,21 +19,21 @@ settledJob left u j = withRun j (j .run .0 + granted left u j) (isOver left u j)
 
 -- the bullet that applies
 module _ {A : Type 0} (left u : ℕ) (x y z : A) where
-  nothing-left : eqb left 0 ≡ true → byBullet left u x y z ≡ x
+  pub nothing-left : eqb left 0 ≡ true → byBullet left u x y z ≡ x
   unfolding byBullet
   nothing-left e = rw e
 
-  entry-0 : eqb left 0 ≡ false → eqb u 0 ≡ true → byBullet left u x y z ≡ y
+  pub entry-0 : eqb left 0 ≡ false → eqb u 0 ≡ true → byBullet left u x y z ≡ y
   unfolding byBullet
   entry-0 e f = rw (e, f)
 
-  entry-u : eqb left 0 ≡ false → eqb u 0 ≡ false → byBullet left u x y z ≡ z
+  pub entry-u : eqb left 0 ≡ false → eqb u 0 ≡ false → byBullet left u x y z ≡ z
   unfolding byBullet
   entry-u e f = rw (e, f)
 
 module _ (left u : ℕ) (j : Job) where
   -- entry u: what is asked of it
-  above-run : eqb left 0 ≡ false → eqb u 0 ≡ false → allowed left u j ≡ true → (j .run .0 < u) × (u ≤ j .reserve .0) × (u - j .run .0 ≤ left)
+  pub above-run : eqb left 0 ≡ false → eqb u 0 ≡ false → allowed left u j ≡ true → (j .run .0 < u) × (u ≤ j .reserve .0) × (u - j .run .0 ≤ left)
   unfolding allowed byBullet
   above-run e f a =
       let all : (ltb (j .run .0) u && leb u (j .reserve .0) && leb (u - j .run .0) left) ≡ true = rw (e, f) at a in
@@ -53,6 +53,16 @@ module _ (left u : ℕ) (j : Job) where
       go true q e f = rw (nothing-left left u 0 (min left (remaining j)) (u - j .run .0) e) (omega arith)
       go false true e f = rw (entry-0 left u 0 (min left (remaining j)) (u - j .run .0) e f) (omega arith)
       go false false e f = rw (entry-u left u 0 (min left (remaining j)) (u - j .run .0) e f) (above-run e f a .2)
+
+  -- and within its remaining reserve
+  pub granted-rest : allowed left u j ≡ true → granted left u j ≤ remaining j
+  unfolding granted remaining
+  granted-rest a = go (eqb left 0) (eqb u 0) refl refl
+    where
+      go : (p q : Bool) → eqb left 0 ≡ p → eqb u 0 ≡ q → byBullet left u 0 (min left (remaining j)) (u - j .run .0) ≤ j .reserve .0 - j .run .0
+      go true q e f = rw (nothing-left left u 0 (min left (remaining j)) (u - j .run .0) e) (omega arith)
+      go false true e f = rw (entry-0 left u 0 (min left (remaining j)) (u - j .run .0) e f) (omega arith)
+      go false false e f = rw (entry-u left u 0 (min left (remaining j)) (u - j .run .0) e f) (omega (arith, above-run e f a .1))
 
   -- a ready job's run count is still right
   pub granted-right : runRight j ≡ true → j .over ≡ false → allowed left u j ≡ true → runRight (settledJob left u j) ≡ true

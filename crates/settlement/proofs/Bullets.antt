@@ -1,30 +1,25 @@
--- Rule 4's bullets for one ready job: which of them applies, what each case of it comes to, and that what is given for an allowed entry is there to give.
+-- Rule 4's bullets for one ready job: its part is that of the one that applies, and what each case of that comes to.
 use mathlib.Core.Path.{_≡_, refl}
 use mathlib.Core.Bool.{Bool, true, false, cond, _&&_}
 use Prim.Native.Nat.{ℕ, _+_, _-_, _≤_, _<_, min}
 use native.Mathlib.Omega.{arith}
 use lib.Dec.{eqb, ltb, leb}
-use borrow.Author.Tests.{eq-eqb, ne-eqb, lt-ltb, le-ltb, le-leb, lt-leb, leb-true}
+use borrow.Author.Tests.{eq-eqb, ne-eqb, lt-ltb, le-ltb, le-leb, lt-leb}
 use Rattle.units.specs.declared.Cycles.{Cycles}
 use Rattle.units.specs.Units.{cycles}
 use Rattle.rules.specs.declared.Job.{Job}
 use Rattle.rules.specs.Settlement.{byBullet, remaining, usesUp, allowed, granted, isCut, isOver}
-use Rattle.rules.proofs.Lists.{both-left, both-right}
 use Rattle.settlement.specs.Parts.{shareOf, notReached, runsOn, finishesAt}
 
--- which bullet applies
-module _ (left u : ℕ) (j : Job) where
-  pub nothing-left : left ≡ 0 → notReached u ≡ shareOf left u j
-  unfolding notReached shareOf allowed granted isOver isCut byBullet
-  nothing-left e = rw (eq-eqb left 0 e)
-
-  pub entry-0 : (left ≡ 0 → ⊥) → u ≡ 0 → runsOn left j ≡ shareOf left u j
-  unfolding runsOn shareOf allowed granted isOver isCut byBullet
-  entry-0 n e = rw (ne-eqb left 0 n, eq-eqb u 0 e)
-
-  pub entry-u : (left ≡ 0 → ⊥) → (u ≡ 0 → ⊥) → finishesAt left u j ≡ shareOf left u j
-  unfolding finishesAt shareOf allowed granted isOver isCut byBullet
-  entry-u n e = rw (ne-eqb left 0 n, ne-eqb u 0 e)
+-- the part of a job is that of the bullet that applies
+pub by-bullet : (left u : ℕ) (j : Job) → byBullet left u (notReached u) (runsOn left j) (finishesAt left u j) ≡ shareOf left u j
+unfolding notReached runsOn finishesAt shareOf allowed granted isOver isCut byBullet
+by-bullet left u j = go (eqb left 0) (eqb u 0)
+  where
+    go : (a b : Bool) → cond a (notReached u) (cond b (runsOn left j) (finishesAt left u j)) ≡ record { allowed = cond a (eqb u 0) (cond b true (ltb (j .run .0) u && leb u (j .reserve .0) && leb (u - j .run .0) left)); given = cycles (cond a 0 (cond b (min left (remaining j)) (u - j .run .0))); over = cond a false (cond b (usesUp left j) true); cut = cond a false (cond b (usesUp left j) false) }
+    go true b = refl
+    go false true = refl
+    go false false = refl
 
 -- entry 0: a run past the reserve gets nothing, less than what remains is all given, and what remains uses the reserve up
 module _ (left : Cycles) (j : Job) where
@@ -72,19 +67,3 @@ module _ (left u : ℕ) (j : Job) where
   unfolding finishesAt
   within-left r h =
       rw (lt-ltb (j .run .0) u r, le-leb (u - j .run .0) left h, and-true (leb u (j .reserve .0)))
-
--- what is given for an allowed entry is at most what is left, and at most the remaining reserve
-pub granted-within : (left u : ℕ) (j : Job) → allowed left u j ≡ true → (granted left u j ≤ left) × (granted left u j ≤ j .reserve .0 - j .run .0)
-unfolding allowed granted byBullet remaining
-granted-within left u j = go (eqb left 0) (eqb u 0)
-  where
-    go : (a b : Bool) → cond a (eqb u 0) (cond b true (ltb (j .run .0) u && leb u (j .reserve .0) && leb (u - j .run .0) left)) ≡ true → let given = cond a 0 (cond b (min left (j .reserve .0 - j .run .0)) (u - j .run .0)) in (given ≤ left) × (given ≤ j .reserve .0 - j .run .0)
-    go true b e = (omega arith, omega arith)
-    go false true e = (omega arith, omega arith)
-    go false false e =
-        let above = ltb (j .run .0) u in
-        let within = leb u (j .reserve .0) in
-        let reached = leb (u - j .run .0) left in
-        let r = leb-true (u - j .run .0) left (both-right (above && within) reached e) in
-        let w = leb-true u (j .reserve .0) (both-right above within (both-left (above && within) reached e)) in
-        (r, omega arith)

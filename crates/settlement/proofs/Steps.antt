@@ -9,10 +9,10 @@ use Rattle.units.specs.Units.{cycles}
 use Rattle.rules.specs.declared.Tasks.{Tasks}
 use Rattle.rules.specs.declared.Settling.{Settling}
 use Rattle.rules.specs.State.{jobAt, putAt}
-use Rattle.rules.specs.Settlement.{allowed, granted, settleAt}
+use Rattle.rules.specs.Settlement.{remaining, allowed, granted, settleAt}
+use Rattle.rules.proofs.Shares.{granted-left, granted-rest}
 use Rattle.settlement.specs.declared.shares.Share.{Share}
 use Rattle.settlement.specs.Parts.{shareOf}
-use Rattle.settlement.proofs.Bullets.{granted-within}
 
 -- a count of the jobs cut goes up by one where a job is cut, and stays where it is not
 pub cut-more : (b : Bool) (n m : ℕ) → b ≡ true → m ≡ n + 1 → m ≡ n + cond b 1 0
@@ -38,11 +38,13 @@ module _ (ts : Tasks) (sofar : Settling) (i u : ℕ) (part : Share) (shared : pa
 
   -- what is given is there to give
   pub part-within : part .allowed ≡ true → (part .given .0 ≤ sofar .left .0) × (part .given .0 ≤ jobAt ts (sofar .jobs) i .reserve .0 - jobAt ts (sofar .jobs) i .run .0)
-  unfolding shareOf
+  unfolding shareOf remaining
   part-within ok =
       let is-given : part .given .0 ≡ granted (sofar .left .0) u (jobAt ts (sofar .jobs) i) =
       ap (λ (p : Share). p .given .0) shared in
-      rw is-given (granted-within (sofar .left .0) u (jobAt ts (sofar .jobs) i) (sym part-allowed ∙ ok))
+      let fine = sym part-allowed ∙ ok in
+      rw is-given
+      (granted-left (sofar .left .0) u (jobAt ts (sofar .jobs) i) fine, granted-rest (sofar .left .0) u (jobAt ts (sofar .jobs) i) fine)
 
   -- stored with the run count raised, what is left lowered and the cut counted
   pub part-stored : (run left : Cycles) (cut : ℕ) → run ≡ cycles (jobAt ts (sofar .jobs) i .run .0 + part .given .0) → left ≡ cycles (sofar .left .0 - part .given .0) → cut ≡ sofar .cut + cond (part .cut) 1 0 → stored sofar i part run left cut ≡ settleAt ts i u sofar
