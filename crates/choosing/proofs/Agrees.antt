@@ -18,7 +18,6 @@ use Rattle.rules.proofs.Orders.{order-below, order-same}
 use Rattle.rules.proofs.Soundness.{Sound}
 use Rattle.choosing.specs.Choosing.{mostCount, dueBy, duesOf, dueIn, readyIn, orderIn, firstIn, choiceIn}
 use Rattle.choosing.proofs.Firsts.{head-below}
-pub use Rattle.choosing.proofs.Listings.{listed-list, listed-long, listed-below}
 
 -- rule 1 at a place: a period from 1 to 1,000,000 and at most 1,000,000,000 ticks give a deadline that can be written
 due-is : (t p : ℕ) → 1 ≤ p → p ≤ mostPeriod → t ≤ mostTicks → dueBy t p ≡ t + p - t % p

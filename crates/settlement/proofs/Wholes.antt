@@ -11,10 +11,10 @@ use Rattle.rules.specs.declared.Dues.{Dues}
 use Rattle.rules.specs.Limits.{mostTasks}
 use Rattle.rules.specs.Settlement.{overEntriesZero, atTickStart}
 use Rattle.rules.proofs.Orders.{order-below, order-short}
-use Rattle.choosing.specs.Choosing.{dueIn, readyIn, orderIn, listed}
-use Rattle.choosing.proofs.Agrees.{listed-list, listed-long, listed-below}
+use Rattle.choosing.specs.Choosing.{dueIn, readyIn, orderIn, listed, orderList}
+use Rattle.choosing.proofs.Listings.{listed-list, listed-long, listed-below}
 use Rattle.settlement.specs.Settled.{settledOf}
-use Rattle.settlement.specs.Parts.{Placed, orderList, settledFrom, refusedAs}
+use Rattle.settlement.specs.Parts.{Placed, settledFrom, refusedAs}
 
 -- an order of the tasks, in an array
 module _ (d : Dues) (js : Jobs) (n : ℕ) where
@@ -32,7 +32,6 @@ module _ (d : Dues) (js : Jobs) (n : ℕ) where
       }
 
   pub listed-order : orderList (listed (orderIn d js n)) ≡ orderIn d js n
-  unfolding orderList
   listed-order = listed-list (orderIn d js n) short
 
 module _ (ts : Tasks) (js : Jobs) (order : List ℕ) (speed : ℕ) (report : List ℕ) where

@@ -4,7 +4,7 @@ use mathlib.Core.Path.{_≡_}
 use mathlib.Core.Bool.{Bool, true, false, cond, _&&_}
 use mathlib.Core.List.{List}
 use lib.Dec.{eqb, ltb, leb}
-use lib.ListN.{length, getD, take}
+use lib.ListN.{length, getD}
 use Rattle.units.specs.declared.Cycles.{Cycles}
 use Rattle.units.specs.Units.{cycles}
 use Rattle.rules.specs.declared.Tasks.{Tasks}
@@ -38,10 +38,7 @@ finishesAt left u j =
       cut = false;
     }
 
--- the list that an order holds; each of its places is one that the arrays have
-unfoldable pub orderList : Order → List ℕ
-orderList order = take (order .count) (order .places)
-
+-- an order whose places are ones that the arrays have
 pub record Placed (order : Order) : Type 0 where
   pub few : order .count ≤ mostTasks
   pub long : length (order .places) ≡ mostTasks

@@ -5,7 +5,8 @@ use mathlib.Core.List.{List}
 use Prim.Native.Nat.{ℕ}
 use borrow.Author.Tests.{not-true, not-false}
 use Rattle.rules.specs.Settlement.{atTickStart}
-use Rattle.settlement.specs.Parts.{Placed, orderList, settledFrom}
+use Rattle.choosing.specs.Choosing.{orderList}
+use Rattle.settlement.specs.Parts.{Placed, settledFrom}
 use Rattle.settlement.proofs.Wholes.{placed-order, listed-order, over-broken, over-kept}
 use Rattle.settlement.proofs.settle.Statement.{statement}
 use Rattle.settlement.proofs.settle.Tie as tie

@@ -17,7 +17,8 @@ use Rattle.rules.specs.Words.{upTo}
 use Rattle.rules.specs.Limits.{mostTasks}
 use Rattle.rules.specs.State.{jobAt}
 use Rattle.rules.specs.Settlement.{atTickStart}
-use Rattle.settlement.specs.Parts.{orderList, shareOf}
+use Rattle.choosing.specs.Choosing.{orderList}
+use Rattle.settlement.specs.Parts.{shareOf}
 use Rattle.settlement.proofs.Steps.{cut-more, cut-same, part-within}
 use Rattle.settlement.proofs.Orders.{Going, going-start, going-on, going-stop, going-end}
 use Rattle.settlement.proofs.turns.settle_order.Statement.{statement}
