@@ -6,7 +6,7 @@ use Prim.Native.Nat.{ℕ, _+_, _-_, _%_, _≤_, _<_, min}
 use native.Mathlib.Omega.{arith}
 use lib.Dec.{ltb}
 use borrow.Author.Tests.{lt-ltb, ne-eqb}
-use Rattle.units.specs.Units.{ticks}
+use Rattle.units.specs.Units.{ticks, mostCount}
 use Rattle.rules.specs.declared.State.{State}
 use Rattle.rules.specs.Words.{upTo, every}
 use Rattle.rules.specs.Limits.{mostTasks, mostPeriod, mostSpeeds, mostTicks}
@@ -16,7 +16,7 @@ use Rattle.rules.specs.Choice.{deadlineAt, readyAt, orderBy, orderOf, chosen, c
 use Rattle.rules.proofs.Lists.{getD-upTo}
 use Rattle.rules.proofs.Orders.{order-below, order-same}
 use Rattle.rules.proofs.Soundness.{Sound}
-use Rattle.choosing.specs.Choosing.{mostCount, dueBy, duesOf, dueIn, readyIn, orderIn, firstIn, choiceIn}
+use Rattle.choosing.specs.Choosing.{dueBy, duesOf, dueIn, readyIn, orderIn, firstIn, choiceIn}
 use Rattle.choosing.proofs.Firsts.{head-below}
 
 -- rule 1 at a place: a period from 1 to 1,000,000 and at most 1,000,000,000 ticks give a deadline that can be written

@@ -11,7 +11,7 @@ use mir.Syntax.{w64}
 use mir.Val.{Fits}
 use lib.Dec.{ltb}
 use lib.ListN.{length, getD, set, drop}
-use Rattle.units.specs.Units.{cycles, volts}
+use Rattle.units.specs.Units.{cycles, volts, mostCount}
 use Rattle.units.specs.declared.Cycles.{Cycles}
 use Rattle.units.specs.declared.Speed.{Speed}
 use Rattle.units.specs.declared.Volts.{Volts}
@@ -21,7 +21,7 @@ use Rattle.rules.specs.Words.{upTo, total}
 use Rattle.rules.specs.State.{countAt}
 use Rattle.rules.specs.Counting.{counted}
 use Rattle.rules.proofs.Lists.{upTo-rest, upTo-end, upTo-ext, upTo-getD, upTo-set}
-use Rattle.governor.specs.Parts.{Countable, past64}
+use Rattle.governor.specs.Parts.{Countable}
 
 -- rule 5
 module _ (tally : Tally) (place : ℕ) (speed : Speed) (outcome : Settling) (c : Countable tally place speed outcome) where
@@ -57,8 +57,8 @@ once-most c (suc v) =
     omega arith
 
 -- a turn of the sum of rule 6 fits where the whole sum does
-module _ (counts : List Cycles) (vs : List Volts) (n sum i : ℕ) (h : i < n) (whole : total (costs counts vs) (upTo n (λ k. k)) ≡ sum + total (costs counts vs) (drop i (upTo n (λ k. k)))) (fits : total (costs counts vs) (upTo n (λ k. k)) < past64) where
-  turn : sum + costs counts vs i < past64
+module _ (counts : List Cycles) (vs : List Volts) (n sum i : ℕ) (h : i < n) (whole : total (costs counts vs) (upTo n (λ k. k)) ≡ sum + total (costs counts vs) (drop i (upTo n (λ k. k)))) (fits : total (costs counts vs) (upTo n (λ k. k)) ≤ mostCount) where
+  turn : sum + costs counts vs i ≤ mostCount
   turn = omega (arith, whole, fits, sum-on (costs counts vs) n i h)
 
   pub once-fits : Fits w64 (getD counts i (cycles 0) .0 * getD vs i (volts 0) .0)
@@ -68,7 +68,7 @@ module _ (counts : List Cycles) (vs : List Volts) (n sum i : ℕ) (h : i < n) (w
   twice-fits = record { fits = omega (arith, turn) }
 
   pub sum-fits : Fits w64 (sum + costs counts vs i)
-  sum-fits = record { fits = turn }
+  sum-fits = record { fits = omega (arith, turn) }
 
   pub sum-turn : total (costs counts vs) (upTo n (λ k. k)) ≡ sum + costs counts vs i + total (costs counts vs) (drop (i + 1) (upTo n (λ k. k)))
   sum-turn = omega (arith, whole, sum-on (costs counts vs) n i h)

@@ -5,7 +5,7 @@ use mathlib.Core.Bool.{true, false, cond}
 use mathlib.Core.List.{List}
 use lib.Dec.{eqb}
 use lib.ListN.{length, getD}
-use Rattle.units.specs.Units.{ticks}
+use Rattle.units.specs.Units.{ticks, mostCount}
 use Rattle.units.specs.declared.Ticks.{Ticks}
 use Rattle.units.specs.declared.Cycles.{Cycles}
 use Rattle.units.specs.declared.Speed.{Speed}
@@ -23,28 +23,24 @@ use Rattle.rules.specs.Choice.{speedPlace}
 use Rattle.rules.specs.Counting.{energySum}
 use Rattle.rules.specs.Numbers.{sound}
 
--- the number past the largest of 64 bits
-abbrev pub past64 : ℕ
-past64 = 18_446_744_073_709_551_616
-
 -- rule 5's sums stay in their range, and what is not left of the speed was granted
 pub record Countable (tally : Tally) (place : ℕ) (speed : Speed) (outcome : Settling) : Type 0 where
   pub listed : place < mostSpeeds
   pub shared : total (λ (g : Cycles). g .0) (outcome .grants) + outcome .left .0 ≡ speed .0
-  pub count : countAt tally place + speed .0 < past64
-  pub idle : tally .idle .0 + speed .0 < past64
-  pub cut : tally .cut + outcome .cut < past64
+  pub count : countAt tally place + speed .0 ≤ mostCount
+  pub idle : tally .idle .0 + speed .0 ≤ mostCount
+  pub cut : tally .cut + outcome .cut ≤ mostCount
 
 -- rule 6's sum stays in its range
 pub record Affordable (ladder : Ladder) (tally : Tally) : Type 0 where
   pub listed : ladder .count ≤ mostSpeeds
-  pub fits : energySum ladder tally < past64
+  pub fits : energySum ladder tally ≤ mostCount
 
 -- a task's deadline is the new tick exactly where its period divides that, and the count of late jobs has room
 pub record Timely (tasks : Tasks) (dues : Dues) (next : Ticks) (late : ℕ) : Type 0 where
   pub few : tasks .count ≤ mostTasks
   pub due : (i : ℕ) → i < tasks .count → eqb (getD (dues .at) i (ticks 0) .0) (next .0) ≡ eqb (next .0 % periodAt tasks i) 0
-  pub room : late + mostTasks < past64
+  pub room : late + mostTasks ≤ mostCount
 
 -- one task released
 unfoldable pub released : ℕ → Releasing → Releasing
@@ -62,7 +58,7 @@ releasedTo at next (suc n) sofar =
 
 -- a tick that can be counted
 pub record Steps (s : State) (place : ℕ) (speed : Speed) (dues : Dues) (outcome : Settling) : Type 0 where
-  pub room : s .done .0 + 1 < past64
+  pub room : s .done .0 + 1 ≤ mostCount
   pub counts : Countable (s .tally) place speed outcome
   pub releases : Timely (s .tasks) dues (ticks (s .done .0 + 1)) (s .tally .late)
 

@@ -8,7 +8,7 @@ use native.Mathlib.Omega.{arith}
 use lib.Dec.{leb}
 use lib.ListN.{length, getD, drop, drop-of-length-le}
 use borrow.Author.Tests.{le-leb, lt-leb, leb-true, leb-false}
-use Rattle.units.specs.Units.{cycles, cyclesIn, mostCycles}
+use Rattle.units.specs.Units.{cycles, cyclesIn, mostCount}
 use Rattle.units.specs.declared.Cycles.{Cycles}
 use Rattle.units.specs.declared.Speed.{Speed}
 use Rattle.units.specs.declared.Ticks.{Ticks}
@@ -78,5 +78,5 @@ pub most-is : (done : Ticks) (top : Speed) → top .0 ≤ mostSpeed → done .0 
 unfolding cyclesIn
 most-is done top a b =
     let h : top .0 * done .0 ≤ 1_000_000_000_000_000 = mul-le-mul a b in
-    let k : top .0 * done .0 ≤ mostCycles = omega (arith, h) in
+    let k : top .0 * done .0 ≤ mostCount = omega (arith, h) in
     min-eq-left k ∙ mul-comm (top .0) (done .0)

@@ -8,7 +8,7 @@ use lib.Dec.{lit<, leb}
 use borrow.Author.Tests.{le-leb, lt-leb, leb-true, leb-false}
 use Rattle.units.specs.declared.Speed.{Speed}
 use Rattle.units.specs.declared.Ticks.{Ticks}
-use Rattle.units.specs.Units.{cycles, mostCycles, cyclesIn}
+use Rattle.units.specs.Units.{cycles, mostCount, cyclesIn}
 
 -- two numbers below 2 ^ 32 have a product that fits
 pub small-fits : {s t : ℕ} → s < 4294967296 → t < 4294967296 → s * t < 2 ^ 64
@@ -18,22 +18,22 @@ small-fits {s} {t} hs ht =
     lt-of-le-of-lt (mul-le-mul a b) (lit< tt)
 
 -- a product whose quotient test passed fits
-pub tested-fits : (s t : ℕ) → 0 < t → s ≤ mostCycles / t → s * t < 2 ^ 64
+pub tested-fits : (s t : ℕ) → 0 < t → s ≤ mostCount / t → s * t < 2 ^ 64
 tested-fits s t p h =
-    let k : s * t ≤ mostCycles = le-div-iff-mul-le p .0 h in
+    let k : s * t ≤ mostCount = le-div-iff-mul-le p .0 h in
     omega arith
 
 -- and one that did not is above the largest count
-pub past-most : (s t : ℕ) → 0 < t → mostCycles / t < s → mostCycles < s * t
+pub past-most : (s t : ℕ) → 0 < t → mostCount / t < s → mostCount < s * t
 past-most s t p h = div-lt-iff-lt-mul p .0 h
 
 pub in-most : (s : Speed) (t : Ticks) → s .0 * t .0 < 2 ^ 64 → cycles (s .0 * t .0) ≡ cyclesIn s t
 unfolding cyclesIn
 in-most s t h =
-    let k : s .0 * t .0 ≤ mostCycles = omega arith in
+    let k : s .0 * t .0 ≤ mostCount = omega arith in
     ap cycles (sym (min-eq-left k))
 
-pub past-is : (s : Speed) (t : Ticks) → mostCycles < s .0 * t .0 → cycles mostCycles ≡ cyclesIn s t
+pub past-is : (s : Speed) (t : Ticks) → mostCount < s .0 * t .0 → cycles mostCount ≡ cyclesIn s t
 unfolding cyclesIn
 past-is s t h = ap cycles (sym (min-eq-right (le-of-lt h)))
 
@@ -41,17 +41,17 @@ pub no-ticks : (s : Speed) (t : Ticks) → t .0 ≡ 0 → cycles 0 ≡ cyclesIn 
 unfolding cyclesIn
 no-ticks s t e =
     let z : s .0 * t .0 ≡ 0 = ap (λ (n : ℕ). s .0 * n) e ∙ mul-zero (s .0) in
-    ap cycles (sym (ap (λ (n : ℕ). min n mostCycles) z))
+    ap cycles (sym (ap (λ (n : ℕ). min n mostCount) z))
 
 -- a load that can be written is carried exactly when it is at most `cyclesIn`
-pub load-compared : (s : Speed) (t : Ticks) (l : ℕ) → l ≤ mostCycles → leb l (cyclesIn s t .0) ≡ leb l (s .0 * t .0)
+pub load-compared : (s : Speed) (t : Ticks) (l : ℕ) → l ≤ mostCount → leb l (cyclesIn s t .0) ≡ leb l (s .0 * t .0)
 unfolding cyclesIn
 load-compared s t l h = go (leb l (s .0 * t .0)) refl
   where
     go : (b : Bool) → leb l (s .0 * t .0) ≡ b → leb l (cyclesIn s t .0) ≡ leb l (s .0 * t .0)
     go true e =
         let k : l ≤ s .0 * t .0 = leb-true _ _ e in
-        le-leb l (min (s .0 * t .0) mostCycles) (omega arith) ∙ sym e
+        le-leb l (min (s .0 * t .0) mostCount) (omega arith) ∙ sym e
     go false e =
         let k : s .0 * t .0 < l = leb-false _ _ e in
-        lt-leb l (min (s .0 * t .0) mostCycles) (omega arith) ∙ sym e
+        lt-leb l (min (s .0 * t .0) mostCount) (omega arith) ∙ sym e

@@ -18,10 +18,10 @@ speed n = record { 0 = n }
 abbrev pub volts : ℕ → Volts
 volts n = record { 0 = n }
 
--- the largest count of cycles that can be written
-abbrev pub mostCycles : ℕ
-mostCycles = 18_446_744_073_709_551_615
+-- the largest count, of ticks or of cycles, that can be written: 2 ^ 64 - 1
+abbrev pub mostCount : ℕ
+mostCount = 18_446_744_073_709_551_615
 
 -- speed x ticks, or the largest count where that is more
 unfoldable pub cyclesIn : Speed → Ticks → Cycles
-cyclesIn s t = cycles (min (s .0 * t .0) mostCycles)
+cyclesIn s t = cycles (min (s .0 * t .0) mostCount)
