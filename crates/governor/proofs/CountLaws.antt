@@ -20,7 +20,8 @@ use Rattle.rules.specs.declared.Settling.{Settling}
 use Rattle.rules.specs.Words.{upTo, total}
 use Rattle.rules.specs.State.{countAt}
 use Rattle.rules.specs.Counting.{counted}
-use Rattle.rules.proofs.Lists.{upTo-rest, upTo-end, upTo-ext, upTo-getD, upTo-set}
+use Rattle.rules.proofs.Lists.{length-upTo, getD-upTo, upTo-ext, upTo-getD, upTo-set}
+use Rattle.rules.proofs.Totals.{total-rest, total-end}
 use Rattle.governor.specs.Parts.{Countable}
 
 -- rule 5
@@ -41,13 +42,13 @@ costs counts vs i = getD counts i (cycles 0) .0 * getD vs i (volts 0) .0 * getD 
 
 -- the sum of the speeds from i on: a turn, the end, and what a turn fits into
 module _ (f : ℕ → ℕ) (n i : ℕ) where
-  pub sum-on : i < n → total f (drop i (upTo n (λ k. k))) ≡ f i + total f (drop (i + 1) (upTo n (λ k. k)))
-  unfolding total
-  sum-on h = rw (upTo-rest n (λ k. k) i h)
+  sum-on : i < n → total f (drop i (upTo n (λ k. k))) ≡ f i + total f (drop (i + 1) (upTo n (λ k. k)))
+  sum-on h =
+      let l = upTo n (λ k. k) in
+      total-rest f l 0 i (rw (length-upTo n (λ k. k)) h) ∙ ap (λ x. f x + total f (drop (i + 1) l)) (getD-upTo n (λ k. k) i 0 h)
 
   pub sum-end : n ≤ i → total f (drop i (upTo n (λ k. k))) ≡ 0
-  unfolding total
-  sum-end h = rw (upTo-end n (λ k. k) i h)
+  sum-end h = total-end f (upTo n (λ k. k)) i (rw (length-upTo n (λ k. k)) h)
 
 -- a factor more keeps a product at least as large, unless the product is 0
 once-most : (c v : ℕ) → c * v ≤ c * v * v

@@ -1,12 +1,12 @@
--- The laws of `total`: over the places of a list, at its last place, of smaller terms, of a factor, after a store, of terms that differ at one place. By induction on the list or on its number of places.
+-- The laws of `total`: over the places of a list, at its last place, from a place on, of smaller terms, of a factor, after a store, of terms that differ at one place. By induction on the list or on its number of places.
 use mathlib.Core.Path.{_≡_, refl, sym, ap, _∙_}
 use mathlib.Core.List.{List, [], _∷_}
 use Prim.Native.Nat.{ℕ, zero, suc, zero-le, suc-le-suc, _+_, _*_, _≤_, _<_}
 use native.Mathlib.Nat.{add-comm, add-le-add, zero-lt-suc, suc-mul, le-of-suc-le-suc, not-suc-le-zero, mul-zero, mul-add, le-refl}
 use native.Mathlib.Omega.{arith}
-use lib.ListN.{length, getD, set}
+use lib.ListN.{length, getD, drop, set, drop-of-length-le}
 use Rattle.rules.specs.Words.{upTo, total}
-use Rattle.rules.proofs.Lists.{length-upTo, getD-upTo, upTo-set}
+use Rattle.rules.proofs.Lists.{length-upTo, getD-upTo, upTo-set, rest-cons}
 
 -- a sum over the places of a list of values is the sum over the values
 pub total-places : {A : Type 0} (f : A → ℕ) (g : ℕ → A) (n : ℕ) → total f (upTo n g) ≡ total (λ i. f (g i)) (upTo n (λ i. i))
@@ -46,6 +46,15 @@ total-last f zero = omega arith
 total-last f (suc n) =
     let rest : total (λ i. f (suc i)) (upTo (suc n) (λ i. i)) ≡ total (λ i. f (suc i)) (upTo n (λ i. i)) + f (suc n) = total-last (λ i. f (suc i)) n in
     omega (arith, rest, total-places f suc (suc n), total-places f suc n)
+
+-- the sum from a place on: what stands there and the sum from the next place on; nothing past the end
+pub total-rest : {A : Type 0} (f : A → ℕ) (l : List A) (d : A) (i : ℕ) → i < length l → total f (drop i l) ≡ f (getD l i d) + total f (drop (i + 1) l)
+unfolding total
+total-rest f l d i h = rw (rest-cons l d i h)
+
+pub total-end : {A : Type 0} (f : A → ℕ) (l : List A) (i : ℕ) → length l ≤ i → total f (drop i l) ≡ 0
+unfolding total
+total-end f l i h = rw (drop-of-length-le l {i = i} h)
 
 -- a store changes a sum by what it puts in and what it takes away
 pub total-set : {A : Type 0} (f : A → ℕ) (l : List A) (i : ℕ) (x d : A) → i < length l → total f (set l i x) + f (getD l i d) ≡ total f l + f x

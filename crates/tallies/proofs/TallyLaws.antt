@@ -6,7 +6,7 @@ use Prim.Native.Nat.{ℕ, _+_, _-_, _*_, _≤_, _<_}
 use native.Mathlib.Nat.{mul-le-mul, mul-comm, min-eq-left}
 use native.Mathlib.Omega.{arith}
 use lib.Dec.{leb}
-use lib.ListN.{length, getD, drop, drop-of-length-le}
+use lib.ListN.{length, getD, drop}
 use borrow.Author.Tests.{le-leb, lt-leb, leb-true, leb-false}
 use Rattle.units.specs.Units.{cycles, cyclesIn, mostCount}
 use Rattle.units.specs.declared.Cycles.{Cycles}
@@ -15,21 +15,16 @@ use Rattle.units.specs.declared.Ticks.{Ticks}
 use Rattle.rules.specs.declared.Tally.{Tally}
 use Rattle.rules.specs.Words.{total}
 use Rattle.rules.specs.Limits.{mostSpeed, mostTicks}
-use Rattle.rules.proofs.Lists.{rest-cons}
+use Rattle.rules.proofs.Totals.{total-rest, total-end}
 use Rattle.tallies.specs.Tallies.{countedWithin, tallyRight}
 
 -- the cycles of a list of counts
 abbrev pub cyclesOf : List Cycles → ℕ
 cyclesOf l = total (λ (c : Cycles). c .0) l
 
--- what is left to take off at a place, and past the end
-pub counts-on : (l : List Cycles) (i : ℕ) → i < length l → cyclesOf (drop i l) ≡ getD l i (cycles 0) .0 + cyclesOf (drop (i + 1) l)
-unfolding total
-counts-on l i h = rw (rest-cons l (cycles 0) i h)
-
-pub counts-end : (l : List Cycles) (i : ℕ) → length l ≤ i → cyclesOf (drop i l) ≡ 0
-unfolding total
-counts-end l i h = rw (drop-of-length-le l {i = i} h)
+-- what is left to take off at a place
+counts-on : (l : List Cycles) (i : ℕ) → i < length l → cyclesOf (drop i l) ≡ getD l i (cycles 0) .0 + cyclesOf (drop (i + 1) l)
+counts-on l i h = total-rest (λ (c : Cycles). c .0) l (cycles 0) i h
 
 -- what is left of the most, and what is left to take off it, tell whether the sum is at most that
 module _ (t : Tally) (left most i : ℕ) (kept : left + cyclesOf (t .counts) ≡ most + cyclesOf (drop i (t .counts))) where
@@ -46,7 +41,7 @@ module _ (t : Tally) (left most i : ℕ) (kept : left + cyclesOf (t .counts) ≡
   idle-decides h = go (leb (t .idle .0) left) refl
     where
       all : left + cyclesOf (t .counts) ≡ most
-      all = omega (arith, kept, counts-end (t .counts) i h)
+      all = omega (arith, kept, total-end (λ (c : Cycles). c .0) (t .counts) i h)
 
       go : (b : Bool) → leb (t .idle .0) left ≡ b → leb (t .idle .0) left ≡ leb (cyclesOf (t .counts) + t .idle .0) most
       go true e = e ∙ sym (le-leb (cyclesOf (t .counts) + t .idle .0) most (omega (arith, all, leb-true (t .idle .0) left e)))
