@@ -7,6 +7,7 @@ use Rattle.rules.specs.Limits.{mostTasks, mostSpeeds}
 use Rattle.rules.specs.Admission.{greatOf}
 use Rattle.rules.specs.Calls.{tasksFrom, ladderFrom, freshState, startOf}
 use Rattle.rules.proofs.Tables.{Passes, passes, match-most}
+use Rattle.rules.proofs.CallRows.{start-is}
 use Rattle.promises.specs.Runs.{Table, started}
 
 -- a table at tick 0
@@ -15,8 +16,8 @@ freshOf table = freshState (tasksFrom (greatOf (table .periods)) (table .periods
 
 module _ (table : Table) (e : started table .number ≡ 0) where
   pub started-is : started table .state ≡ freshOf table
-  unfolding started startOf
-  started-is = rw e
+  unfolding started
+  started-is = start-is (table .periods) (table .reserves) (table .speeds) (table .volts) e
 
   -- its table passed 1 to 8
   pub passed : Passes (table .periods) (table .reserves) (table .speeds) (table .volts)

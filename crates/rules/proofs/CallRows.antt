@@ -1,5 +1,5 @@
--- The rows of now, tick and energy: what each number answers, and what 0 says of all tests.
-use mathlib.Core.Path.{_≡_}
+-- The answers of start by its number, and the rows of now, tick and energy: what each number answers, and what 0 says of all tests.
+use mathlib.Core.Path.{_≡_, sym, ap}
 use mathlib.Core.Bool.{true, false, _&&_}
 use mathlib.Core.List.{List}
 use Prim.Native.Nat.{ℕ, _≤_, _<_}
@@ -10,13 +10,15 @@ use borrow.Author.Tests.{eqb-true, eq-eqb, ne-eqb, le-leb, lt-leb, leb-false, no
 use Rattle.units.specs.Units.{cycles, speed}
 use Rattle.rules.specs.declared.State.{State}
 use Rattle.rules.specs.declared.Choice.the-variants.{Nothing}
+use Rattle.rules.specs.declared.Started.{Started}
 use Rattle.rules.specs.Words.{upTo, firstOf}
 use Rattle.rules.specs.Limits.{mostTicks}
 use Rattle.rules.specs.Choice.{choiceOf, speedPlace, speedOf, noneCarries}
 use Rattle.rules.specs.Settlement.{settled, keepsRule4}
 use Rattle.rules.specs.Counting.{nextOf, energySum}
-use Rattle.rules.specs.Numbers.{sound, allDone, nowNumber, tickNumber, energyNumber}
-use Rattle.rules.specs.Calls.{nowOf, tickOf, grantsOf, energyOf}
+use Rattle.rules.specs.Admission.{greatOf}
+use Rattle.rules.specs.Numbers.{startNumber, sound, allDone, nowNumber, tickNumber, energyNumber}
+use Rattle.rules.specs.Calls.{tasksFrom, ladderFrom, freshState, zeroState, startOf, nowOf, tickOf, grantsOf, energyOf}
 use Rattle.rules.proofs.Lists.{both-left, both-right}
 use Rattle.rules.proofs.Tables.{first-fails, rest-fails}
 use Rattle.rules.proofs.Soundness.{Sound, sound-facts}
@@ -29,6 +31,20 @@ all-done s h = le-leb mostTicks (s .done .0) h
 pub not-all-done : (s : State) → s .done .0 < mostTicks → allDone s ≡ false
 unfolding allDone
 not-all-done s h = lt-leb mostTicks (s .done .0) h
+
+-- start: its answer for each number, and the state of an accepted one
+module _ (ps cs ss vs : List ℕ) where
+  pub start-refused : (n : ℕ) → (n ≡ 0 → ⊥) → startNumber ps cs ss vs ≡ n → record { number = n; state = zeroState } ≡ startOf ps cs ss vs
+  unfolding startOf
+  start-refused n z e = rw (e, ne-eqb n 0 z)
+
+  pub start-accepted : startNumber ps cs ss vs ≡ 0 → record { number = 0; state = freshState (tasksFrom (greatOf ps) ps cs) (ladderFrom ss vs) } ≡ startOf ps cs ss vs
+  unfolding startOf
+  start-accepted e = rw e
+
+  pub start-is : startOf ps cs ss vs .number ≡ 0 → startOf ps cs ss vs .state ≡ freshState (tasksFrom (greatOf ps) ps cs) (ladderFrom ss vs)
+  unfolding startOf
+  start-is e = sym (ap (λ (r : Started). r .state) (start-accepted e))
 
 -- now: its numbers, and its answer for each
 module _ (s : State) where

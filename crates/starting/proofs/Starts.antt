@@ -2,11 +2,11 @@
 use mathlib.Core.Path.{_≡_, sym, ap, _∙_}
 use mathlib.Core.List.{List}
 use Prim.Native.Nat.{ℕ}
-use borrow.Author.Tests.{ne-eqb}
 use Rattle.rules.specs.declared.State.{State}
 use Rattle.rules.specs.Numbers.{startNumber}
 use Rattle.rules.specs.Admission.{greatOf}
 use Rattle.rules.specs.Calls.{tasksFrom, ladderFrom, freshState, startOf}
+use Rattle.rules.proofs.CallRows.{start-refused, start-accepted}
 use Rattle.admission.specs.declared.Verdict.{Verdict}
 use Rattle.admission.specs.Verdict.{verdictOf}
 use Rattle.starting.specs.Refusal.{refusal}
@@ -21,10 +21,9 @@ module _ (ps cs ss vs : List ℕ) (v : Verdict) (judged : v ≡ verdictOf ps cs 
   unfolding verdictOf
   great-is z = ap (λ (x : Verdict). x .great .0) judged ∙ rw (number-is ∙ z)
 
-  pub start-refused : (v .number ≡ 0 → ⊥) → refusal (v .number) ≡ startOf ps cs ss vs
-  unfolding refusal startOf
-  start-refused n = rw (number-is, ne-eqb (v .number) 0 n)
+  pub verdict-refused : (v .number ≡ 0 → ⊥) → refusal (v .number) ≡ startOf ps cs ss vs
+  unfolding refusal
+  verdict-refused n = start-refused ps cs ss vs (v .number) n number-is
 
-  pub start-passed : v .number ≡ 0 → (s : State) → s ≡ freshState (tasksFrom (v .great .0) ps cs) (ladderFrom ss vs) → record { number = 0; state = s } ≡ startOf ps cs ss vs
-  unfolding startOf
-  start-passed z s e = rw (number-is ∙ z, e, great-is z)
+  pub verdict-passed : v .number ≡ 0 → (s : State) → s ≡ freshState (tasksFrom (v .great .0) ps cs) (ladderFrom ss vs) → record { number = 0; state = s } ≡ startOf ps cs ss vs
+  verdict-passed z s e = rw (e, great-is z) (start-accepted ps cs ss vs (number-is ∙ z))

@@ -4,7 +4,7 @@ use mathlib.Core.Path.{ap₂, _∙_}
 use Rattle.rules.specs.Limits.{mostTasks, mostSpeeds}
 use Rattle.rules.specs.Calls.{freshState}
 use Rattle.rules.proofs.Tables.{passes, match-most, match-same}
-use Rattle.starting.proofs.Starts.{number-is, start-refused, start-passed}
+use Rattle.starting.proofs.Starts.{number-is, verdict-refused, verdict-passed}
 use Rattle.starting.proofs.start.Statement.{statement}
 use Rattle.starting.proofs.start.Tie as tie
 
@@ -15,7 +15,7 @@ refused-requires : tie.Need-refused-requires
 refused-requires c κs = search needs
 
 returns : tie.Need-returns
-returns c = c .refused .ensures ∙ start-refused _ _ _ _ _ (c .before .before .judge .ensures) (c .before .if1 .taken)
+returns c = c .refused .ensures ∙ verdict-refused _ _ _ _ _ (c .before .before .judge .ensures) (c .before .if1 .taken)
 
 tasks-from-requires : tie.Need-tasks-from-requires
 tasks-from-requires c κs =
@@ -32,7 +32,7 @@ fresh-requires c κs = search needs
 
 returns-2 : tie.Need-returns-2
 returns-2 c =
-    start-passed _ _ _ _ _ (c .before .before .before .before .judge .ensures) (c .before .before .before .if1 .left) _
+    verdict-passed _ _ _ _ _ (c .before .before .before .before .judge .ensures) (c .before .before .before .if1 .left) _
     (c .fresh .ensures ∙ ap₂ freshState (c .before .before .tasks-from .ensures) (c .before .ladder-from .ensures))
 
 pub start-spec : {M : Type 1} → statement M
