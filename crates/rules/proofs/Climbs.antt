@@ -71,12 +71,8 @@ module _ (b : ℕ) (l : List ℕ) (e : speedsRise b l ≡ true) where
           let last : i ≡ length l - 1 = omega arith in
           rw last (le-refl (getD l (length l - 1) 0))
 
--- each volt value of a list that never falls is in its range, and not below those at earlier places
+-- each volt value of a list that never falls is in its range
 module _ (b : ℕ) (l : List ℕ) (e : voltsNeverFall b l ≡ true) where
   pub stay-range : (i : ℕ) → i < length l → upToMost mostVolts (getD l i 0) ≡ true
   unfolding voltsNeverFall
   stay-range = climbs-range mostVolts 0 b l e
-
-  pub stay-order : (i k : ℕ) → i < k → k < length l → getD l i 0 ≤ getD l k 0
-  unfolding voltsNeverFall
-  stay-order i k a h = omega (arith, climbs-order mostVolts 0 b l e i k a h)

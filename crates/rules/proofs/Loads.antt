@@ -19,7 +19,7 @@ use Rattle.rules.specs.Admission.{fullLoad}
 use Rattle.rules.specs.Numbers.{runRight}
 use Rattle.rules.proofs.Lists.{length-upTo, getD-upTo}
 use Rattle.rules.proofs.Ranges.{range-from, range-to}
-use Rattle.rules.proofs.Climbs.{rise-range, rise-order, rise-top, stay-range, stay-order}
+use Rattle.rules.proofs.Climbs.{rise-range, rise-order, rise-top, stay-range}
 use Rattle.rules.proofs.Lowest.{lowest-fits, before-fails, fit-below, below-some}
 use Rattle.rules.proofs.Soundness.{Sound, length-speeds, length-volts}
 
@@ -123,31 +123,20 @@ module _ (s : State) (f : Sound s) (i : ℕ) (h : i < s .ladder .count) where
   pub speed-most : speedAt (s .ladder) i ≤ topOf (speedsOf (s .ladder))
   speed-most = rw (speeds-at (s .ladder) i h) at (rise-top 0 (speedsOf (s .ladder)) (f .speeds-rise) i in-speeds)
 
-  pub volts-some : 1 ≤ voltsAt (s .ladder) i
-  volts-some = range-from mostVolts (voltsAt (s .ladder) i) volts-range
-
   pub volts-limit : voltsAt (s .ladder) i ≤ mostVolts
   volts-limit = range-to mostVolts (voltsAt (s .ladder) i) volts-range
 
--- a later speed is above, a later volt value not below
+-- a later speed is above
 module _ (s : State) (f : Sound s) (i k : ℕ) (a : i < k) (h : k < s .ladder .count) where
   pub speed-order : speedAt (s .ladder) i < speedAt (s .ladder) k
   speed-order =
       rw (speeds-at (s .ladder) i (omega arith), speeds-at (s .ladder) k h)
       at (rise-order 0 (speedsOf (s .ladder)) (f .speeds-rise) i k a (in-speeds s f k h))
 
-  pub volts-order : voltsAt (s .ladder) i ≤ voltsAt (s .ladder) k
-  volts-order =
-      rw (volts-at (s .ladder) i (omega arith), volts-at (s .ladder) k h)
-      at (stay-order 0 (voltsOf (s .ladder)) (f .volts-never-fall) i k a (in-volts s f k h))
-
 -- the top speed is in its range, and so is the speed of a tick, which stands at its place
 module _ (s : State) (f : Sound s) where
   pub last-in : s .ladder .count - 1 < s .ladder .count
   last-in = omega (arith, f .speeds-some)
-
-  pub top-some : 1 ≤ topOf (speedsOf (s .ladder))
-  top-some = rw (top-at (s .ladder) (f .speeds-some)) (speed-some s f (s .ladder .count - 1) last-in)
 
   pub top-limit : topOf (speedsOf (s .ladder)) ≤ mostSpeed
   top-limit = rw (top-at (s .ladder) (f .speeds-some)) (speed-limit s f (s .ladder .count - 1) last-in)

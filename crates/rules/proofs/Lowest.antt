@@ -1,4 +1,4 @@
--- The place of the first entry that fits: below the length exactly when not every entry fails, and it fits there. By induction on the list.
+-- The place of the first entry that fits: below the length where some entry fits, and it fits there. By induction on the list.
 use mathlib.Core.Path.{_≡_, refl, sym, ap, _∙_}
 use mathlib.Core.Bool.{Bool, true, false, not, false≢true}
 use mathlib.Core.List.{List, [], _∷_}
@@ -9,7 +9,7 @@ use native.Mathlib.Omega.{arith}
 use lib.ListN.{length, getD}
 use Rattle.rules.specs.Words.{every}
 use Rattle.rules.specs.Choice.{lowest}
-use Rattle.rules.proofs.Lists.{every-at, every-all}
+use Rattle.rules.proofs.Lists.{every-at}
 
 module _ (fits : ℕ → Bool) where
   -- the place at a first entry that fits, and past one that does not
@@ -57,16 +57,7 @@ module _ (fits : ℕ → Bool) where
       go (yes a) = a
       go (no a) = absurd (false≢true (sym (before-fails l i (omega arith)) ∙ e))
 
-  -- below the length exactly when not every entry fails
-  pub some-below : (l : List ℕ) → every (λ x. not (fits x)) l ≡ false → lowest fits l < length l
-  some-below l e = go (decLt (lowest fits l) (length l))
-    where
-      go : Dec (lowest fits l < length l) → lowest fits l < length l
-      go (yes a) = a
-      go (no a) =
-          absurd (false≢true
-          (sym e ∙ every-all (λ x. not (fits x)) l 0 (λ i h. ap not (before-fails l i (omega arith)))))
-
+  -- below the length not every entry fails
   pub below-some : (l : List ℕ) → lowest fits l < length l → every (λ x. not (fits x)) l ≡ false
   below-some l h = go (every (λ x. not (fits x)) l) refl
     where
