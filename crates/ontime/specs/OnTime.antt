@@ -9,17 +9,13 @@ use lib.ListN.{length}
 use Rattle.rules.specs.declared.Tasks.{Tasks}
 use Rattle.rules.specs.declared.Jobs.{Jobs}
 use Rattle.rules.specs.declared.Job.{Job}
-use Rattle.rules.specs.Words.{upTo, total}
+pub use Rattle.rules.specs.Words.{sumTo}
 use Rattle.rules.specs.Limits.{mostTasks}
 use Rattle.rules.specs.State.{jobAt}
 use Rattle.rules.specs.Load.{useOf}
 use Rattle.rules.specs.Choice.{orderBy}
 use Rattle.rules.specs.Settlement.{remaining, settleAll, allAllowed, atTickStart}
 use Rattle.rules.specs.Numbers.{runRight}
-
--- the sum of f at 0, 1, .. up to n - 1
-abbrev pub sumTo : ℕ → (ℕ → ℕ) → ℕ
-sumTo n f = total f (upTo n (λ i. i))
 
 -- What a tick finds: the tasks and their jobs, how many places are looked at and which of them hold a task, the tick, and when each place's job is due.
 -- The tasks' great period may be any common multiple of the periods.

@@ -14,15 +14,14 @@ use Rattle.rules.specs.declared.State.{State}
 use Rattle.rules.specs.declared.Used.{Used}
 use Rattle.rules.specs.Words.{firstOf}
 use Rattle.rules.specs.State.{Shaped}
-use Rattle.rules.specs.Limits.{mostTasks, mostSpeeds, mostTicks}
+use Rattle.rules.specs.Limits.{mostTicks}
 use Rattle.rules.specs.Choice.{speedOf}
 use Rattle.rules.specs.Counting.{nextOf}
 use Rattle.rules.specs.Numbers.{allDone, nowNumber, tickNumber}
-use Rattle.rules.specs.Calls.{tasksFrom, ladderFrom, freshJobs, freshTally, freshState, nowOf, tickOf, energyOf}
-use Rattle.rules.proofs.Lists.{length-upTo}
+use Rattle.rules.specs.Calls.{nowOf, tickOf, energyOf}
 use Rattle.rules.proofs.Soundness.{Sound, facts-sound}
 use Rattle.rules.proofs.Loads.{some-carries}
-use Rattle.rules.proofs.Fresh.{fresh-facts}
+use Rattle.rules.proofs.Fresh.{fresh-facts, fresh-shaped}
 use Rattle.rules.proofs.CallRows.{all-done, not-all-done, now-10, now-0, tick-10, tick-0, energy-accepted}
 use Rattle.rules.proofs.Keeps.{taken-sound, taken-shaped}
 use Rattle.promises.specs.Runs.{Table, Call, Step, Each, started, ticked, after, stepOf, steps}
@@ -42,20 +41,6 @@ sound-next s call kept e =
     record {
       facts = taken-sound s (call .report) (length (call .grants)) (kept .shape) e;
       shape = taken-shaped s (call .report) (length (call .grants)) (kept .shape) e;
-    }
-
--- the arrays of a fresh state have all their places
-fresh-shaped : (great : ℕ) (ps cs ss vs : List ℕ) → Shaped (freshState (tasksFrom great ps cs) (ladderFrom ss vs))
-unfolding freshState tasksFrom ladderFrom freshJobs freshTally
-fresh-shaped great ps cs ss vs =
-    record {
-      periods = length-upTo mostTasks _;
-      reserves = length-upTo mostTasks _;
-      runs = length-upTo mostTasks _;
-      marks = length-upTo mostTasks _;
-      speeds = length-upTo mostSpeeds _;
-      volts = length-upTo mostSpeeds _;
-      counts = length-upTo mostSpeeds _;
     }
 
 -- what start accepts is so

@@ -7,7 +7,8 @@ use lib.ListN.{length, getD}
 use Rattle.rules.specs.declared.State.{State}
 use Rattle.rules.specs.declared.Started.{Started}
 use Rattle.rules.specs.declared.Ticked.{Ticked}
-use Rattle.rules.specs.Words.{upTo, total}
+use Rattle.rules.specs.Words.{total}
+pub use Rattle.rules.specs.Words.{sumTo}
 use Rattle.rules.specs.Calls.{startOf, nowOf, tickOf, grantsOf}
 
 -- a table as start takes it, and start's answer to it
@@ -72,7 +73,3 @@ granted x = total (λ g. g) (x .grants)
 abbrev pub Each : (Step → Type 0) → List Step → Type 0
 Each P [] = Unit {0}
 Each P (x ∷ xs) = P x × Each P xs
-
--- the sum of f at 0, 1, .. up to n - 1
-abbrev pub sumTo : ℕ → (ℕ → ℕ) → ℕ
-sumTo n f = total f (upTo n (λ i. i))

@@ -15,11 +15,11 @@ use Rattle.rules.specs.declared.Job.{Job}
 use Rattle.rules.specs.declared.State.{State}
 use Rattle.rules.specs.Words.{upTo, total}
 use Rattle.rules.specs.Limits.{mostTasks, mostPeriod, mostReserve, mostSpeeds, upToMost}
-use Rattle.rules.specs.State.{jobAt, periodAt, reserveAt, speedAt, voltsAt, countAt, periodsOf, reservesOf, speedsOf, voltsOf, topOf}
+use Rattle.rules.specs.State.{Shaped, jobAt, periodAt, reserveAt, speedAt, voltsAt, countAt, periodsOf, reservesOf, speedsOf, voltsOf, topOf}
 use Rattle.rules.specs.Admission.{greatOf, fullLoad}
 use Rattle.rules.specs.Numbers.{startNumber, unusedJob, unusedSpeed, runRight, sound}
 use Rattle.rules.specs.Calls.{tasksFrom, ladderFrom, freshJobs, freshTally, freshState, zeroState, startOf}
-use Rattle.rules.proofs.Lists.{getD-upTo, upTo-ext, upTo-getD, every-at}
+use Rattle.rules.proofs.Lists.{length-upTo, getD-upTo, upTo-ext, upTo-getD, every-at}
 use Rattle.rules.proofs.Ranges.{range-from, range-to}
 use Rattle.rules.proofs.Places.{running-right, job-unused, speed-unused}
 use Rattle.rules.proofs.Tables.{Passes, passes, match-some, match-most, match-same}
@@ -175,6 +175,20 @@ module _ (ps cs ss vs : List ℕ) (p : Passes ps cs ss vs) where
         late-most = omega arith;
         cut-most = omega arith;
       }
+
+-- the arrays of a fresh state have all their places
+pub fresh-shaped : (great : ℕ) (ps cs ss vs : List ℕ) → Shaped (freshState (tasksFrom great ps cs) (ladderFrom ss vs))
+unfolding freshState tasksFrom ladderFrom freshJobs freshTally
+fresh-shaped great ps cs ss vs =
+    record {
+      periods = length-upTo mostTasks _;
+      reserves = length-upTo mostTasks _;
+      runs = length-upTo mostTasks _;
+      marks = length-upTo mostTasks _;
+      speeds = length-upTo mostSpeeds _;
+      volts = length-upTo mostSpeeds _;
+      counts = length-upTo mostSpeeds _;
+    }
 
 -- an accepted start is sound
 pub start-sound : (ps cs ss vs : List ℕ) → startNumber ps cs ss vs ≡ 0 → sound (startOf ps cs ss vs .state) ≡ true

@@ -87,6 +87,11 @@ module _ (s : State) (f : Sound s) where
   unfolding fitsOf carries speedPlace
   lower-short i h = leb-false (loadOf s) (getD (speedsOf (s .ladder)) i 0 * s .tasks .great .0) (before-fails (fitsOf s) (speedsOf (s .ladder)) i h)
 
+-- the last of n values is the one at n - 1
+pub last-at : (n : ℕ) (f : ℕ → ℕ) → 1 ≤ n → topOf (upTo n f) ≡ f (n - 1)
+unfolding topOf
+last-at n f h = rw (length-upTo n f) (getD-upTo n f (n - 1) 0 (omega arith))
+
 -- what stands at a place of the lists
 pub speeds-at : (l : Ladder) (i : ℕ) → i < l .count → getD (speedsOf l) i 0 ≡ speedAt l i
 unfolding speedsOf
@@ -97,8 +102,8 @@ unfolding voltsOf
 volts-at l i h = getD-upTo (l .count) (voltsAt l) i 0 h
 
 pub top-at : (l : Ladder) → 1 ≤ l .count → topOf (speedsOf l) ≡ speedAt l (l .count - 1)
-unfolding topOf speedsOf
-top-at l h = rw (length-upTo (l .count) (speedAt l)) (speeds-at l (l .count - 1) (omega arith))
+unfolding speedsOf
+top-at l h = last-at (l .count) (speedAt l) h
 
 -- each listed speed and volt value is in its range, and no speed is above the top
 module _ (s : State) (f : Sound s) (i : ℕ) (h : i < s .ladder .count) where

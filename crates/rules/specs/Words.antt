@@ -13,6 +13,10 @@ unfoldable pub total : {A : Type 0} → (A → ℕ) → List A → ℕ
 total f [] = 0
 total f (x ∷ xs) = f x + total f xs
 
+-- the sum of f at 0, 1, .. up to n - 1
+abbrev pub sumTo : ℕ → (ℕ → ℕ) → ℕ
+sumTo n f = total f (upTo n (λ i. i))
+
 -- whether p holds for every entry of a list
 unfoldable pub every : {A : Type 0} → (A → Bool) → List A → Bool
 every p [] = true

@@ -13,13 +13,8 @@ use Rattle.units.specs.declared.Volts.{Volts}
 use Rattle.rules.specs.Words.{upTo}
 use Rattle.rules.specs.Limits.{mostSpeed, mostVolts, upToMost}
 use Rattle.rules.specs.Numbers.{climbsFrom, speedsRise, voltsNeverFall}
-use Rattle.rules.proofs.Lists.{upTo-rest, upTo-end}
+use Rattle.rules.proofs.Lists.{and-true, and-false, upTo-rest, upTo-end}
 use Rattle.rungs.specs.Parts.{climbing}
-
--- a conjunction whose second part does not hold
-second : (a b : Bool) → b ≡ false → (a && b) ≡ false
-second true b e = e
-second false b e = refl
 
 -- the number before is in its range, and so are those that follow
 unfoldable pub upFrom : ℕ → ℕ → ℕ → List ℕ → Bool
@@ -35,13 +30,13 @@ module _ (most gap before x : ℕ) (l : List ℕ) where
       go true e =
           let m : x ≤ most = leb-true x most e in
           rw (e, le-leb before most (omega arith), le-leb 1 x some, le-leb (before + gap) x h)
-      go false e = rw (e, le-leb 1 x some) (second (leb before most) false refl)
+      go false e = rw (e, le-leb 1 x some) (and-false (leb before most) false refl)
 
   up-stop : x < before + gap → upFrom most gap before (x ∷ l) ≡ false
   unfolding upFrom climbsFrom
   up-stop h =
-      second (leb before most) (upToMost most x && leb (before + gap) x && climbsFrom most gap x l)
-      (rw (second (upToMost most x) (leb (before + gap) x) (lt-leb (before + gap) x h)))
+      and-false (leb before most) (upToMost most x && leb (before + gap) x && climbsFrom most gap x l)
+      (rw (and-false (upToMost most x) (leb (before + gap) x) (lt-leb (before + gap) x h)))
 
 -- no speed and 1 tenth of a volt before the first: as no speed and no volts
 speeds-from : (ss : List ℕ) → speedsRise 0 ss ≡ upFrom mostSpeed 1 0 ss
@@ -85,7 +80,7 @@ module _ (n : ℕ) (ss : List Speed) (vs : List Volts) where
     pub climb-faint : i < n → v i < faint → climbingUp low faint i ≡ false
     unfolding climbingUp
     climb-faint h b =
-        second (upFrom mostSpeed 1 low (drop i (upTo n s))) (upFrom mostVolts 0 faint (drop i (upTo n v)))
+        and-false (upFrom mostSpeed 1 low (drop i (upTo n s))) (upFrom mostVolts 0 faint (drop i (upTo n v)))
         (rw (upTo-rest n v i h) (up-stop mostVolts 0 faint (v i) (drop (i + 1) (upTo n v)) (omega arith)))
 
     -- at the end the limits are left
@@ -97,8 +92,4 @@ module _ (n : ℕ) (ss : List Speed) (vs : List Volts) where
     climb-fast h a = climb-end h ∙ rw (lt-leb low mostSpeed a)
 
     pub climb-done : n ≤ i → low ≤ mostSpeed → climbingUp low faint i ≡ leb faint mostVolts
-    climb-done h a = climb-end h ∙ rw (le-leb low mostSpeed a) (whole (leb faint mostVolts))
-      where
-        whole : (b : Bool) → (b && true) ≡ b
-        whole true = refl
-        whole false = refl
+    climb-done h a = climb-end h ∙ rw (le-leb low mostSpeed a) (and-true (leb faint mostVolts))

@@ -1,6 +1,6 @@
 -- The top speed by how many speeds are listed: none, more than there are places, or so many.
 use mathlib.Core.Path.{_≡_, sym, ap}
-use Prim.Native.Nat.{ℕ, _-_, _≤_, _<_}
+use Prim.Native.Nat.{_-_, _≤_, _<_}
 use native.Mathlib.Nat.{min-eq-left, min-eq-right}
 use native.Mathlib.Omega.{arith}
 use lib.ListN.{getD}
@@ -9,13 +9,8 @@ use Rattle.rules.specs.declared.Ladder.{Ladder}
 use Rattle.rules.specs.Words.{upTo}
 use Rattle.rules.specs.Limits.{mostSpeeds}
 use Rattle.rules.specs.State.{speedAt, speedsOf, topOf}
-use Rattle.rules.proofs.Lists.{length-upTo, getD-upTo}
+use Rattle.rules.proofs.Loads.{last-at}
 use Rattle.rungs.specs.Rungs.{topIn}
-
--- the last of n values is the one at n - 1
-last-at : (n : ℕ) (f : ℕ → ℕ) → 1 ≤ n → topOf (upTo n f) ≡ f (n - 1)
-unfolding topOf
-last-at n f h = rw (length-upTo n f) (getD-upTo n f (n - 1) 0 (omega arith))
 
 module _ (l : Ladder) where
   -- no speed listed: 0

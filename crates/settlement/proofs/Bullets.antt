@@ -9,6 +9,7 @@ use Rattle.units.specs.declared.Cycles.{Cycles}
 use Rattle.units.specs.Units.{cycles}
 use Rattle.rules.specs.declared.Job.{Job}
 use Rattle.rules.specs.Settlement.{byBullet, remaining, usesUp, allowed, granted, isCut, isOver}
+use Rattle.rules.proofs.Lists.{and-true, and-false}
 use Rattle.settlement.specs.Parts.{shareOf, notReached, runsOn, finishesAt}
 
 -- the part of a job is that of the bullet that applies
@@ -41,15 +42,6 @@ module _ (left : Cycles) (j : Job) where
       let least : min (left .0) (j .reserve .0 - j .run .0) ≡ j .reserve .0 - j .run .0 = omega arith in
       rw (least, eq-eqb (j .run .0 + (j .reserve .0 - j .run .0)) (j .reserve .0) (omega arith))
 
--- a test beside one that is decided
-and-true : (b : Bool) → (b && true) ≡ b
-and-true true = refl
-and-true false = refl
-
-and-false : (b : Bool) → (b && false) ≡ false
-and-false true = refl
-and-false false = refl
-
 -- entry u: at most the run count, more than is left, or as its reserve allows
 module _ (left u : ℕ) (j : Job) where
   pub too-low : u ≤ j .run .0 → record { allowed = false; given = cycles 0; over = true; cut = false } ≡ finishesAt left u j
@@ -61,7 +53,7 @@ module _ (left u : ℕ) (j : Job) where
   pub not-left : j .run .0 < u → left < u - j .run .0 → record { allowed = false; given = cycles (u - j .run .0); over = true; cut = false } ≡ finishesAt left u j
   unfolding finishesAt
   not-left r h =
-      rw (lt-ltb (j .run .0) u r, lt-leb (u - j .run .0) left h, and-false (leb u (j .reserve .0)))
+      rw (lt-ltb (j .run .0) u r, lt-leb (u - j .run .0) left h, and-false (leb u (j .reserve .0)) false refl)
 
   pub within-left : j .run .0 < u → u - j .run .0 ≤ left → record { allowed = leb u (j .reserve .0); given = cycles (u - j .run .0); over = true; cut = false } ≡ finishesAt left u j
   unfolding finishesAt
