@@ -1,4 +1,4 @@
--- Rule 4 for one ready job, in the books: a job that counts pays what it is granted, and cycles are left behind only by a job that is over.
+-- Rule 4 for one ready job, in the books: a job that counts pays what it is granted, and cycles are left behind only by a job that is over. By the balance of what it has to run, its grant and its use.
 use mathlib.Core.Path.{_≡_, refl, sym, ap, _∙_}
 use mathlib.Core.Bool.{Bool, true, false, cond}
 use Prim.Native.Nat.{ℕ, _+_, _-_, _*_, _/_, _≤_, _<_, min}

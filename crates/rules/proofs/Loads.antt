@@ -1,10 +1,9 @@
 -- What soundness says of loads and speeds: no use passes its reserve, so the load is at most the sum that admission tested, and the top speed carries it.
-use mathlib.Core.Path.{_≡_}
-use mathlib.Core.Bool.{Bool, true, false, cond}
+use mathlib.Core.Path.{_≡_, refl}
+use mathlib.Core.Bool.{Bool, true, false}
 use Prim.Native.Nat.{ℕ, zero, suc, suc-le-suc, _-_, _*_, _/_, _≤_, _<_}
 use native.Mathlib.Nat.{add-le-add, mul-le-mul, mul-le-mul-right, div-le-self, le-trans, le-refl, zero-lt-suc}
 use native.Mathlib.Omega.{arith}
-use lib.Dec.{ltb}
 use lib.ListN.{length, getD}
 use borrow.Author.Tests.{le-leb, leb-true, leb-false}
 use Rattle.rules.specs.declared.Job.{Job}
@@ -19,18 +18,19 @@ use Rattle.rules.specs.Admission.{fullLoad}
 use Rattle.rules.specs.Numbers.{runRight}
 use Rattle.rules.proofs.Lists.{length-upTo, getD-upTo}
 use Rattle.rules.proofs.Ranges.{range-from, range-to}
+use Rattle.rules.proofs.Places.{over-most}
 use Rattle.rules.proofs.Climbs.{rise-range, rise-order, rise-top, stay-range}
 use Rattle.rules.proofs.Lowest.{lowest-fits, before-fails, fit-below, below-some}
 use Rattle.rules.proofs.Soundness.{Sound, length-speeds, length-volts}
 
 -- a job whose run count is right uses at most its reserve
-pub use-cases : (over : Bool) (run reserve : ℕ) → cond over (upToMost reserve run) (ltb run reserve) ≡ true → cond over run reserve ≤ reserve
-use-cases true run reserve e = range-to reserve run e
-use-cases false run reserve e = le-refl reserve
-
 pub use-most : (j : Job) → runRight j ≡ true → useOf j ≤ j .reserve .0
-unfolding useOf runRight
-use-most j e = use-cases (j .over) (j .run .0) (j .reserve .0) e
+unfolding useOf
+use-most j e = go (j .over) refl
+  where
+    go : (b : Bool) → j .over ≡ b → useOf j ≤ j .reserve .0
+    go true o = rw o (omega (arith, over-most j e o))
+    go false o = rw o (omega arith)
 
 -- so the load of n jobs is at most the sum that admission tests
 pub load-full : (great n : ℕ) (job : ℕ → Job) → ((i : ℕ) → i < n → runRight (job i) ≡ true) → load great (upTo n job) ≤ fullLoad great (upTo n (λ i. job i .period .0)) (upTo n (λ i. job i .reserve .0))
