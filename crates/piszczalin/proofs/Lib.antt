@@ -1,0 +1,2 @@
+pub mod MarkLaws
+pub mod PlainLaws

@@ -1,0 +1,15 @@
+-- `state_of` is its definition: the marks are turned, and all else is as it was.
+use borrow.Author.Needs.{needs}
+use Rattle.piszczalin.specs.Plain.{stateOf}
+use Rattle.piszczalin.proofs.marks.state_of.Statement.{statement}
+use Rattle.piszczalin.proofs.marks.state_of.Tie as tie
+
+overs-requires : tie.Need-overs-requires
+overs-requires c κs = search needs
+
+returns : tie.Need-returns
+unfolding stateOf
+returns c = rw (c .before .before .overs .ensures)
+
+pub state-of-spec : {M : Type 1} → statement M
+state-of-spec = tie.close (tie.spec overs-requires returns)
