@@ -119,3 +119,21 @@ module _ (s : PlainState) (e : marksGood s ≡ true) where
   pub tick-good : (report : List ℕ) (places : ℕ) → plainTicked (tickOf (stateOf s) report places) ≡ plainTick s report places
   unfolding plainTicked plainTick
   tick-good report places = rw (e, ← given-back report places (eqb (tickOf (stateOf s) report places .number) 0) refl)
+
+-- of the plain state of a state each call answers what the governor's own answers of the state
+module _ (s : State) where
+  pub now-plain : plainOf (nowOf s) ≡ plainNow (plainStateOf s)
+  now-plain = ap (λ (x : State). plainOf (nowOf x)) (sym (state-back s)) ∙ now-good (plainStateOf s) (plain-good s)
+
+  pub energy-plain : energyOf s ≡ plainEnergy (plainStateOf s)
+  energy-plain = ap energyOf (sym (state-back s)) ∙ energy-good (plainStateOf s) (plain-good s)
+
+  pub tick-plain : (report : List ℕ) (places : ℕ) → plainTicked (tickOf s report places) ≡ plainTick (plainStateOf s) report places
+  tick-plain report places =
+      ap (λ (x : State). plainTicked (tickOf x report places)) (sym (state-back s))
+      ∙ tick-good (plainStateOf s) (plain-good s) report places
+
+  pub grants-plain : (report grants : List ℕ) → grantsOf s report grants ≡ plainGrants (plainStateOf s) report grants
+  grants-plain report grants =
+      ap (λ (x : State). grantsOf x report grants) (sym (state-back s))
+      ∙ grants-good (plainStateOf s) (plain-good s) report grants

@@ -1,10 +1,12 @@
--- Both contracts name one answer, and so are both grants lists, which were equal.
+-- Both contracts name one answer, by the law on the plain form of a state, and so are both grants lists, which were equal.
 use borrow.Author.Needs.{needs}
 use mathlib.Core.Path.{sym, ap, _∙_}
 use Prim.Native.Nat.{ℕ}
 use mathlib.Core.List.{List}
 use lib.ListN.{length}
-use Rattle.rules.specs.Calls.{tickOf, grantsOf}
+use Rattle.piszczalin.specs.declared.PlainState.{PlainState}
+use Rattle.piszczalin.specs.Calls.{plainTicked, plainTick, plainGrants}
+use Rattle.piszczalin.proofs.PlainLaws.{tick-plain, grants-plain}
 use Rattle.answers.proofs.exported.exported_tick.Statement.{statement}
 use Rattle.answers.proofs.exported.exported_tick.Tie as tie
 
@@ -25,9 +27,18 @@ returns c =
     let first = c .before .before .before .before .before .before in
     let second = c .before .before in
     let x = first .before .before .before .before .before .args in
-    let same = first .before .before .before .before .before .pre in (
-      first .tick .ensures .0 ∙ ap (λ (g : List ℕ). tickOf (x .state) (x .report .now) (length g)) same ∙ sym (second .piszczalin-tick .ensures .0),
-      first .tick .ensures .1 ∙ ap (λ (g : List ℕ). grantsOf (x .state) (x .report .now) g) same ∙ sym (second .piszczalin-tick .ensures .1),
+    let is = first .before .before .before .before .before .pre .0 in
+    let same = first .before .before .before .before .before .pre .1 in (
+      ap plainTicked (first .tick .ensures .0)
+      ∙ tick-plain (x .state) (x .report .now) (length (x .grants .now))
+      ∙ ap (λ (s : PlainState). plainTick s (x .report .now) (length (x .grants .now))) (sym is)
+      ∙ ap (λ (g : List ℕ). plainTick (x .plain) (x .report .now) (length g)) same
+      ∙ sym (second .piszczalin-tick .ensures .0),
+      first .tick .ensures .1
+      ∙ grants-plain (x .state) (x .report .now) (x .grants .now)
+      ∙ ap (λ (s : PlainState). plainGrants s (x .report .now) (x .grants .now)) (sym is)
+      ∙ ap (λ (g : List ℕ). plainGrants (x .plain) (x .report .now) g) same
+      ∙ sym (second .piszczalin-tick .ensures .1),
     )
 
 pub exported-tick-spec : {M : Type 1} → statement M
