@@ -6,8 +6,8 @@
  *   energy  tells what a state has used
  *
  * Of all four:
- * - They answer for every input: any numbers, lists of any length, any state, also one that nobody here made.
- *   Each answer has a number: 0 accepted, or the smallest refusal that applies.
+ * - They answer for every input: any numbers, lists of any length, any 648 bytes as a state, also one that nobody here
+ *   made. Each answer has a number: 0 accepted, or the smallest refusal that applies.
  * - They keep nothing and allocate nothing, and they write nothing but the grants list: the same input gives the same
  *   answer. They may be called from any thread, from several at once, and in a signal handler.
  * - They end, always, and never trap.
@@ -16,8 +16,8 @@
  * - A list is a pointer and a length in entries. The pointer is aligned for uint64_t, and so many entries can be read
  *   there (written, for grants). It may be NULL only where the length is 0.
  * - The grants list overlaps no other list of the call.
- * - Every byte of `over` in a state that is passed is 0 or 1. A state that came from start, from a tick or through
- *   piszczalin_state_from_bytes has such marks; bytes from anywhere else are to go through it.
+ * - The lists stay as they are during a call. Where another thread changes one meanwhile nothing is promised: start
+ *   reads its lists twice.
  *
  * The library is for x86-64 Linux. It needs memcpy and nothing else.
  *
@@ -27,7 +27,6 @@
 #ifndef PISZCZALIN_H
 #define PISZCZALIN_H
 
-#include <stdbool.h>
 #include <stddef.h>
 #include <stdint.h>
 #include <string.h>
@@ -77,7 +76,7 @@ typedef struct piszczalin_tasks {
 /* Each task's current job. Places past the task count hold zero. */
 typedef struct piszczalin_jobs {
     uint64_t run[PISZCZALIN_TASKS];        /* cycles: what the job ran so far */
-    bool over[PISZCZALIN_TASKS];           /* mark: whether the job is over, by a finish or a cut; 0 or 1 */
+    uint8_t over[PISZCZALIN_TASKS];        /* mark: 1 where the job is over, by a finish or a cut, and 0 where not */
 } piszczalin_jobs;
 
 /* The speed side of a table. Places past the speed count hold zero. */
@@ -96,9 +95,10 @@ typedef struct piszczalin_tally {
 } piszczalin_tally;
 
 /* The whole state: 648 bytes, plain numbers and marks, no padding and no pointer. It can be copied, compared and kept
- * as bytes. A state is sound when its tables pass 1 to 8, H is right, unused places are zero, t is at most
- * 1,000,000,000, a job not over has run below its reserve, a job that is over has run from 1 to its reserve, counts
- * and idle together are at most t x top speed, and late and cut are each at most 16 x t. The all-zero state is not. */
+ * as bytes. A state is sound when its marks are 0 or 1, its tables pass 1 to 8, H is right, unused places are zero, t
+ * is at most 1,000,000,000, a job not over has run below its reserve, a job that is over has run from 1 to its reserve,
+ * counts and idle together are at most t x top speed, and late and cut are each at most 16 x t. The all-zero state is
+ * not. */
 typedef struct piszczalin_state {
     uint64_t done;                         /* ticks: t, those done so far */
     piszczalin_tasks tasks;
@@ -121,7 +121,7 @@ typedef struct piszczalin_told {
     uint64_t speed;                        /* cycles per tick: the lowest listed speed that carries the load */
 } piszczalin_told;
 
-/* What tick answers: 0 and the next state, or 9 to 13 and the state that was given. */
+/* What tick answers: 0 and the next state, or 9 to 13 and the state that was given, byte for byte. */
 typedef struct piszczalin_ticked {
     uint64_t number;
     piszczalin_state state;
@@ -164,7 +164,7 @@ piszczalin_used piszczalin_energy(piszczalin_state state);
 #else
 #define PISZCZALIN_ASSERT(fact) _Static_assert(fact, #fact)
 #endif
-PISZCZALIN_ASSERT(sizeof(size_t) == 8 && sizeof(bool) == 1);
+PISZCZALIN_ASSERT(sizeof(size_t) == 8);
 PISZCZALIN_ASSERT(sizeof(piszczalin_tasks) == 272);
 PISZCZALIN_ASSERT(offsetof(piszczalin_tasks, great) == 8);
 PISZCZALIN_ASSERT(offsetof(piszczalin_tasks, periods) == 16);
@@ -192,18 +192,10 @@ PISZCZALIN_ASSERT(offsetof(piszczalin_told, speed) == 24);
 PISZCZALIN_ASSERT(sizeof(piszczalin_used) == 16 && offsetof(piszczalin_used, energy) == 8);
 #undef PISZCZALIN_ASSERT
 
-/* Takes a state from 648 bytes of any origin. False, and nothing written, where a mark is not 0 or 1. All else may be
- * any number: the calls answer 9 for a state that is unsound. */
-static inline bool piszczalin_state_from_bytes(piszczalin_state *state, const void *bytes)
+/* Takes a state from 648 bytes of any origin: any are one. The calls answer 9 for a state that is unsound. */
+static inline void piszczalin_state_from_bytes(piszczalin_state *state, const void *bytes)
 {
-    const size_t marks = offsetof(piszczalin_state, jobs) + offsetof(piszczalin_jobs, over);
-    unsigned char copy[sizeof *state];
-    memcpy(copy, bytes, sizeof copy);
-    for (size_t i = 0; i < PISZCZALIN_TASKS; i++)
-        if (copy[marks + i] > 1)
-            return false;
-    memcpy(state, copy, sizeof *state);
-    return true;
+    memcpy(state, bytes, sizeof *state);
 }
 
 /* Writes a state as 648 bytes: its fields in their order, numbers of 8 bytes with the lowest first, marks of 1. */

@@ -6,7 +6,7 @@
 
 /* The type of a field, or of an array's elements. */
 #define KIND(value)                                                                                                  \
-    _Generic((value), uint64_t: "number", bool: "bool", piszczalin_tasks: "tasks", piszczalin_jobs: "jobs",          \
+    _Generic((value), uint64_t: "number", uint8_t: "u8", piszczalin_tasks: "tasks", piszczalin_jobs: "jobs",          \
              piszczalin_ladder: "ladder", piszczalin_tally: "tally", piszczalin_state: "state")
 
 #define OF(name) ((piszczalin_##name *)0)

@@ -3,6 +3,7 @@
 #define _XOPEN_SOURCE 700
 #include "piszczalin.h"
 
+#include <stdbool.h>
 #include <stdio.h>
 #include <ucontext.h>
 
@@ -42,7 +43,7 @@ static void ask_cut(void)
     uint64_t grants[2];
     piszczalin_state next = given;
     next.done = 9;
-    next.jobs = (piszczalin_jobs){.run = {7, 4}, .over = {true, true}};
+    next.jobs = (piszczalin_jobs){.run = {7, 4}, .over = {1, 1}};
     next.tally = (piszczalin_tally){.counts = {11, 21}, .idle = 18, .late = 19, .cut = 24};
     const piszczalin_ticked ticked = piszczalin_tick(given, report, 2, grants, 2);
     expect(ticked.number == 0 && memcmp(&ticked.state, &next, sizeof next) == 0, "the state after a cut");
@@ -91,6 +92,36 @@ static void ask_start(void)
     expect(started.number == 0 && memcmp(&started.state, &fresh, sizeof fresh) == 0, "a fresh state");
 }
 
+/* What all three calls refuse with 9: tick gives the same bytes back and writes no grant. */
+static void expect_unsound(const piszczalin_state *state, const char *what)
+{
+    static const uint64_t report[PISZCZALIN_TASKS];
+    uint64_t grants[PISZCZALIN_TASKS];
+    memset(grants, 0x5a, sizeof grants);
+    const piszczalin_told told = piszczalin_now(*state);
+    const piszczalin_used used = piszczalin_energy(*state);
+    const piszczalin_ticked ticked = piszczalin_tick(*state, report, PISZCZALIN_TASKS, grants, PISZCZALIN_TASKS);
+    expect(told.number == PISZCZALIN_UNSOUND && told.task == 0 && told.deadline == 0 && told.speed == 0, what);
+    expect(used.number == PISZCZALIN_UNSOUND && used.energy == 0, what);
+    expect(ticked.number == PISZCZALIN_UNSOUND && memcmp(&ticked.state, state, sizeof *state) == 0, what);
+    for (size_t place = 0; place < PISZCZALIN_TASKS; place++)
+        expect(grants[place] == 0x5a5a5a5a5a5a5a5a, what);
+}
+
+/* A byte that is no mark is refused in every place, used or not. */
+static void ask_marks(void)
+{
+    static const uint8_t bytes[] = {2, 3, 127, 128, 254, 255};
+    for (size_t place = 0; place < PISZCZALIN_TASKS; place++)
+        for (size_t i = 0; i < sizeof bytes; i++) {
+            piszczalin_state used = full().state, unused = given;
+            used.jobs.over[place] = bytes[i];
+            unused.jobs.over[place] = bytes[i];
+            expect_unsound(&used, "a byte that is no mark, all places used");
+            expect_unsound(&unused, "a byte that is no mark, two places used");
+        }
+}
+
 /* Each number of a fresh state set to 2^64 - 1, and each mark set, is seen. */
 static void ask_every_place(void)
 {
@@ -103,10 +134,8 @@ static void ask_every_place(void)
         piszczalin_state_to_bytes(bytes, &fresh);
         memset(bytes + place, mark ? 1 : 0xff, size);
         piszczalin_state state;
-        expect(piszczalin_state_from_bytes(&state, bytes), "marks of 0 and 1 are taken");
-        expect(piszczalin_energy(state).number == PISZCZALIN_UNSOUND, "a place that the library does not look at");
-        memset(bytes + place, 2, size);
-        expect(piszczalin_state_from_bytes(&state, bytes) != mark, "a mark of 2 is not taken, a number is");
+        piszczalin_state_from_bytes(&state, bytes);
+        expect_unsound(&state, "a place that the library does not look at");
         place += size;
     }
 }
@@ -211,6 +240,7 @@ int main(void)
     ask_late();
     ask_start();
     ask_every_place();
+    ask_marks();
     ask_no_lists();
     ask_limits();
     ask_numbers();

@@ -8,9 +8,8 @@
 import re
 import sys
 
-PLAIN = {'u64': 8, 'usize': 8, 'bool': 1}
+PLAIN = {'u64': 8, 'usize': 8, 'u8': 1}
 UNITS = {'Ticks', 'Cycles', 'Speed', 'Volts'}
-OTHER_NAMES = {'PlainTold': 'told'}
 
 
 def die(what):
@@ -18,8 +17,8 @@ def die(what):
 
 
 def shown(name):
-    """a type's name in the tables"""
-    return OTHER_NAMES.get(name, name.lower())
+    """a type's name in the tables: the Rattle source's without Plain"""
+    return name.removeprefix('Plain').lower()
 
 
 def tokens(path):

@@ -1,5 +1,5 @@
 //! A state as bytes, and back: the fields in their order, numbers of 8 bytes with the lowest first, marks of 1.
-use crate::raw::{Jobs, Ladder, State, Tally, Tasks, TASKS};
+use crate::raw::{Jobs, Ladder, State, Tally, Tasks};
 use crate::{Cycles, Speed, Ticks, Volts};
 
 // Bytes that are still to be read.
@@ -32,17 +32,8 @@ impl<'a> Reader<'a> {
         core::array::from_fn(|_| unit(self.number()))
     }
 
-    // Marks, where each is 0 or 1.
-    fn marks(&mut self) -> Option<[bool; TASKS]> {
-        let marks: [u8; TASKS] = self.next();
-        marks
-            .iter()
-            .all(|&mark| mark <= 1)
-            .then(|| marks.map(|mark| mark == 1))
-    }
-
-    pub(crate) fn state(mut self) -> Option<State> {
-        Some(State {
+    pub(crate) fn state(mut self) -> State {
+        State {
             done: Ticks(self.number()),
             tasks: Tasks {
                 count: self.count(),
@@ -52,7 +43,7 @@ impl<'a> Reader<'a> {
             },
             jobs: Jobs {
                 run: self.numbers(Cycles),
-                over: self.marks()?,
+                over: self.next(),
             },
             ladder: Ladder {
                 count: self.count(),
@@ -65,7 +56,7 @@ impl<'a> Reader<'a> {
                 late: self.number(),
                 cut: self.number(),
             },
-        })
+        }
     }
 }
 
@@ -107,7 +98,7 @@ impl<'a> Writer<'a> {
         self.numbers(&tasks.periods, |ticks| ticks.0);
         self.numbers(&tasks.reserves, |cycles| cycles.0);
         self.numbers(&jobs.run, |cycles| cycles.0);
-        self.bytes(&jobs.over.map(u8::from));
+        self.bytes(&jobs.over);
         self.bytes(&ladder.count.to_le_bytes());
         self.numbers(&ladder.speeds, |speed| speed.0);
         self.numbers(&ladder.volts, |volts| volts.0);

@@ -1,4 +1,4 @@
-//! The boundary as it is: the structs and functions of `include/piszczalin.h`, field by field, under the Rattle source's names.
+//! The boundary as it is: the structs and functions of `include/piszczalin.h`, field by field.
 //!
 //! `tests/layout/run` holds header, this module and the Rattle source to each other.
 
@@ -32,8 +32,20 @@ pub struct Tasks {
 pub struct Jobs {
     /// The cycles that the job ran so far.
     pub run: [Cycles; TASKS],
-    /// Whether the job is over, by a finish or a cut.
-    pub over: [bool; TASKS],
+    /// Each job's mark: 1 where it is over, by a finish or a cut, and 0 where it is not. A state with another byte here is unsound.
+    pub over: [u8; TASKS],
+}
+
+impl Jobs {
+    /// Whether the job of the task at a place, counted from 0, is over. None where the byte there is no mark, or there is no such place.
+    #[must_use]
+    pub fn is_over(&self, place: usize) -> Option<bool> {
+        match self.over.get(place) {
+            Some(0) => Some(false),
+            Some(1) => Some(true),
+            _ => None,
+        }
+    }
 }
 
 /// The speed side of a table. Places past the speed count hold zero.
@@ -62,7 +74,7 @@ pub struct Tally {
     pub cut: u64,
 }
 
-/// The whole state: 648 bytes, no padding.
+/// The whole state: 648 bytes, no padding. Any bytes are one; the calls answer 9 for one that is unsound.
 #[repr(C)]
 #[derive(Clone, Copy, Debug, Default, PartialEq, Eq)]
 pub struct State {
@@ -91,7 +103,7 @@ pub struct Started {
 /// What now answers: 0, the task to run and the speed; or 9, 10 or 12, and zeros.
 #[repr(C)]
 #[derive(Clone, Copy, Debug, Default, PartialEq, Eq)]
-pub struct PlainTold {
+pub struct Told {
     /// 0, or the refusal's number.
     pub number: u64,
     /// The ready task with the earliest deadline, the lower number at a tie, from 1; 0 where nothing is ready.
@@ -142,7 +154,7 @@ extern "C" {
     ///
     /// # Safety
     /// Any state may be given.
-    pub fn piszczalin_now(state: State) -> PlainTold;
+    pub fn piszczalin_now(state: State) -> Told;
 
     /// Settles a report, gives the next state and writes each task's cycles to the grants list. Refuses with 9 to 13; then
     /// the state is the one given and the grants list is as it was.

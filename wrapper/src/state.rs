@@ -168,10 +168,9 @@ impl State {
         bytes
     }
 
-    /// Takes a state from bytes of any origin. None where a mark is not 0 or 1. All else may be any number: the calls answer 9
-    /// for a state that is unsound.
+    /// Takes a state from bytes of any origin: any are one. The calls answer 9 for a state that is unsound.
     #[must_use]
-    pub fn from_bytes(bytes: &[u8; State::BYTES]) -> Option<State> {
-        Reader::new(bytes).state().map(State)
+    pub fn from_bytes(bytes: &[u8; State::BYTES]) -> State {
+        State(Reader::new(bytes).state())
     }
 }

@@ -46,7 +46,7 @@ fn main() {
     layout!(tally, Tally, counts idle late cut);
     layout!(state, State, done tasks jobs ladder tally);
     layout!(started, Started, number state);
-    layout!(told, PlainTold, number task deadline speed);
+    layout!(told, Told, number task deadline speed);
     layout!(ticked, Ticked, number state);
     layout!(used, Used, number energy);
 }

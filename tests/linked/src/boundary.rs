@@ -85,8 +85,8 @@ pub fn started((number, next): (u64, State)) -> raw::Started {
 }
 
 /// What now answers: task and deadline are 0 where nothing is ready.
-pub fn told((number, chosen, speed): (u64, Option<(u64, u64)>, u64)) -> raw::PlainTold {
-    let mut told = raw::PlainTold::default();
+pub fn told((number, chosen, speed): (u64, Option<(u64, u64)>, u64)) -> raw::Told {
+    let mut told = raw::Told::default();
     let (task, deadline) = chosen.unwrap_or((0, 0));
     (told.number, told.task) = (number, task);
     (told.deadline.0, told.speed.0) = (deadline, speed);
@@ -114,7 +114,7 @@ pub unsafe trait Plain: Copy {}
 // SAFETY: their fields fill them, which the tests of `fields` show.
 unsafe impl Plain for raw::State {}
 unsafe impl Plain for raw::Started {}
-unsafe impl Plain for raw::PlainTold {}
+unsafe impl Plain for raw::Told {}
 unsafe impl Plain for raw::Ticked {}
 unsafe impl Plain for raw::Used {}
 

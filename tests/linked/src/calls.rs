@@ -38,7 +38,7 @@ impl Call {
     pub fn answer_length(&self) -> usize {
         match self {
             Call::Start(_) => size_of::<raw::Started>(),
-            Call::Now(_) => size_of::<raw::PlainTold>(),
+            Call::Now(_) => size_of::<raw::Told>(),
             Call::Tick { grants, .. } => size_of::<raw::Ticked>() + 8 * grants.len(),
             Call::Energy(_) => size_of::<raw::Used>(),
         }

@@ -38,10 +38,10 @@ fn parts(call: &Call) -> Vec<Part> {
             offset_of!(raw::Started, state),
         ),
         Call::Now(_) => vec![
-            word("number", offset_of!(raw::PlainTold, number)),
-            word("task", offset_of!(raw::PlainTold, task)),
-            word("deadline", offset_of!(raw::PlainTold, deadline)),
-            word("speed", offset_of!(raw::PlainTold, speed)),
+            word("number", offset_of!(raw::Told, number)),
+            word("task", offset_of!(raw::Told, task)),
+            word("deadline", offset_of!(raw::Told, deadline)),
+            word("speed", offset_of!(raw::Told, speed)),
         ],
         Call::Tick { grants, .. } => {
             let mut parts = with_state(

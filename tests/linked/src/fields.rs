@@ -170,7 +170,7 @@ mod tests {
     fn answers_have_no_padding() {
         assert_eq!(size_of::<raw::Started>(), 8 + size_of::<raw::State>());
         assert_eq!(size_of::<raw::Ticked>(), 8 + size_of::<raw::State>());
-        assert_eq!(size_of::<raw::PlainTold>(), 4 * 8);
+        assert_eq!(size_of::<raw::Told>(), 4 * 8);
         assert_eq!(size_of::<raw::Used>(), 2 * 8);
     }
 

@@ -57,7 +57,7 @@ pub fn start([periods, reserves, speeds, volts]: &[Vec<u64>; 4]) -> raw::Started
     }
 }
 
-pub fn now(state: raw::State) -> raw::PlainTold {
+pub fn now(state: raw::State) -> raw::Told {
     // SAFETY: the state goes by value, and its marks are bools.
     unsafe { raw::piszczalin_now(state) }
 }

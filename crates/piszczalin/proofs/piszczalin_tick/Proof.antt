@@ -39,12 +39,12 @@ returns-2 c =
     let is = t .before .before .state-of .ensures in
     let good = told-good _ _ (b .before .good2 .ensures) (b .if1 .left) in (
       ticked-made (t .tick .result) (c .plain-state .result) (c .plain-state .ensures)
-      ∙ ap plainTicked (t .tick .ensures .0)
-      ∙ ap (λ (s : State). plainTicked (tickOf s (a .report .now) (length (a .grants .now)))) is
-      ∙ tick-good (a .state) good (a .report .now) (length (a .grants .now)),
+          ∙ ap plainTicked (t .tick .ensures .0)
+          ∙ ap (λ (s : State). plainTicked (tickOf s (a .report .now) (length (a .grants .now)))) is
+          ∙ tick-good (a .state) good (a .report .now) (length (a .grants .now)),
       t .tick .ensures .1
-      ∙ ap (λ (s : State). grantsOf s (a .report .now) (a .grants .now)) is
-      ∙ grants-good (a .state) good (a .report .now) (a .grants .now),
+          ∙ ap (λ (s : State). grantsOf s (a .report .now) (a .grants .now)) is
+          ∙ grants-good (a .state) good (a .report .now) (a .grants .now),
     )
 
 pub piszczalin-tick-spec : {M : Type 1} → statement M

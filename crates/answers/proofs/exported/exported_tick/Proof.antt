@@ -30,15 +30,15 @@ returns c =
     let is = first .before .before .before .before .before .pre .0 in
     let same = first .before .before .before .before .before .pre .1 in (
       ap plainTicked (first .tick .ensures .0)
-      ∙ tick-plain (x .state) (x .report .now) (length (x .grants .now))
-      ∙ ap (λ (s : PlainState). plainTick s (x .report .now) (length (x .grants .now))) (sym is)
-      ∙ ap (λ (g : List ℕ). plainTick (x .plain) (x .report .now) (length g)) same
-      ∙ sym (second .piszczalin-tick .ensures .0),
+          ∙ tick-plain (x .state) (x .report .now) (length (x .grants .now))
+          ∙ ap (λ (s : PlainState). plainTick s (x .report .now) (length (x .grants .now))) (sym is)
+          ∙ ap (λ (g : List ℕ). plainTick (x .plain) (x .report .now) (length g)) same
+          ∙ sym (second .piszczalin-tick .ensures .0),
       first .tick .ensures .1
-      ∙ grants-plain (x .state) (x .report .now) (x .grants .now)
-      ∙ ap (λ (s : PlainState). plainGrants s (x .report .now) (x .grants .now)) (sym is)
-      ∙ ap (λ (g : List ℕ). plainGrants (x .plain) (x .report .now) g) same
-      ∙ sym (second .piszczalin-tick .ensures .1),
+          ∙ grants-plain (x .state) (x .report .now) (x .grants .now)
+          ∙ ap (λ (s : PlainState). plainGrants s (x .report .now) (x .grants .now)) (sym is)
+          ∙ ap (λ (g : List ℕ). plainGrants (x .plain) (x .report .now) g) same
+          ∙ sym (second .piszczalin-tick .ensures .1),
     )
 
 pub exported-tick-spec : {M : Type 1} → statement M
