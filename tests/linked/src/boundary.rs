@@ -1,4 +1,4 @@
-//! The second program's values in the boundary's structs, and the bytes of these.
+//! The second program's values in the boundary's structs and back, and the bytes of these.
 
 use piszczalin::raw;
 use second::{State, SPEEDS, TASKS};
@@ -42,7 +42,7 @@ fn put_jobs(state: &State, jobs: &mut raw::Jobs) {
     let raw::Jobs { run, over } = jobs;
     for task in 0..TASKS {
         run[task].0 = state.run[task];
-        over[task] = state.over[task];
+        over[task] = u8::from(state.over[task]);
     }
 }
 
@@ -76,6 +76,42 @@ fn put_tally(state: &State, tally: &mut raw::Tally) {
     *cut = state.cut;
 }
 
+/// The boundary's rule: a mark is 1 for a job that is over and 0 for one that is not. Bytes with another mark are no state that
+/// the second program knows; the documents' answer to them is 9, the bytes given back and no grant written.
+pub fn known(given: &raw::State) -> Option<State> {
+    let raw::State {
+        done,
+        tasks,
+        jobs,
+        ladder,
+        tally,
+    } = given;
+    jobs.over.iter().all(|&mark| mark <= 1).then(|| State {
+        t: done.0,
+        task_count: tasks.count as u64,
+        great_period: tasks.great.0,
+        periods: tasks.periods.map(|ticks| ticks.0),
+        reserves: tasks.reserves.map(|cycles| cycles.0),
+        run: jobs.run.map(|cycles| cycles.0),
+        over: jobs.over.map(|mark| mark == 1),
+        speed_count: ladder.count as u64,
+        speeds: ladder.speeds.map(|speed| speed.0),
+        volts: ladder.volts.map(|volts| volts.0),
+        counts: tally.counts.map(|cycles| cycles.0),
+        idle: tally.idle.0,
+        late: tally.late,
+        cut: tally.cut,
+    })
+}
+
+/// The bytes of a state.
+pub const BYTES: usize = size_of::<raw::State>();
+
+/// The state of any bytes.
+pub fn of_bytes(bytes: &[u8; BYTES]) -> raw::State {
+    *piszczalin::State::from_bytes(bytes).as_raw()
+}
+
 /// What start answers.
 pub fn started((number, next): (u64, State)) -> raw::Started {
     raw::Started {
@@ -95,9 +131,14 @@ pub fn told((number, chosen, speed): (u64, Option<(u64, u64)>, u64)) -> raw::Tol
 
 /// What tick answers.
 pub fn ticked((number, next): (u64, State)) -> raw::Ticked {
+    unticked(number, &state(&next))
+}
+
+/// What a refused tick answers: the state that was given.
+pub fn unticked(number: u64, given: &raw::State) -> raw::Ticked {
     raw::Ticked {
         number,
-        state: state(&next),
+        state: *given,
     }
 }
 
@@ -128,5 +169,41 @@ pub fn bytes<T: Plain>(value: &T) -> &[u8] {
 pub fn put_words(out: &mut Vec<u8>, words: &[u64]) {
     for word in words {
         out.extend_from_slice(&word.to_ne_bytes());
+    }
+}
+
+#[cfg(test)]
+mod tests {
+    use super::*;
+    use crate::fields::places;
+    use crate::random::Random;
+    use crate::states;
+
+    /// What the second program is given is what the boundary is given.
+    #[test]
+    fn a_state_comes_back() {
+        for round in 0..500 {
+            let given = states::words(&mut Random::of(7, 3, round));
+            assert_eq!(known(&state(&given)), Some(given));
+        }
+        for place in places() {
+            let mut given = State::default();
+            place.set(&mut given, 1);
+            assert_eq!(known(&state(&given)), Some(given));
+        }
+    }
+
+    /// A byte other than 0 and 1 in any mark is no state that the second program knows; in any other place it is.
+    #[test]
+    fn a_mark_is_0_or_1() {
+        let marks = std::mem::offset_of!(raw::State, jobs.over);
+        for place in 0..BYTES {
+            for byte in 0..=255 {
+                let mut bytes = [0; BYTES];
+                bytes[place] = byte;
+                let mark = (marks..marks + TASKS).contains(&place);
+                assert_eq!(known(&of_bytes(&bytes)).is_none(), mark && byte > 1);
+            }
+        }
     }
 }

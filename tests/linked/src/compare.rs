@@ -81,6 +81,23 @@ pub fn differences(call: &Call, library: &[u8], other: Other) -> Vec<String> {
     differing(parts(call), library, other)
 }
 
+/// Values by the names of their parts, which a document says of an answer.
+pub type Named = &'static [(&'static str, u64)];
+
+/// Each part of the library's answer that is not what the document says, a line each.
+pub fn unlike(call: &Call, library: &[u8], named: Named) -> Vec<String> {
+    let parts = parts(call);
+    let mut lines = Vec::new();
+    for (name, right) in named {
+        let part = parts.iter().find(|part| part.0 == *name);
+        let left = value(library, part.expect("a part of the answer"));
+        if left != *right {
+            lines.push(format!("  {name}: library {left}, document 01 {right}"));
+        }
+    }
+    lines
+}
+
 /// Each place of two states that differs, a line each.
 pub fn differences_of_states(library: &[u8], other: Other) -> Vec<String> {
     differing(state_parts(0), library, other)
@@ -101,7 +118,7 @@ fn differing(parts: Vec<Part>, library: &[u8], (name, other): Other) -> Vec<Stri
 #[cfg(test)]
 mod tests {
     use super::*;
-    use second::State;
+    use piszczalin::raw::State;
 
     /// Every byte of an answer is in one part of it.
     #[test]
@@ -142,6 +159,11 @@ mod tests {
         assert_eq!(
             differences(&call, &other, ("second", &answer)),
             ["  energy: library 256, second 0"]
+        );
+        assert!(unlike(&call, &answer, &[("number", 9), ("energy", 0)]).is_empty());
+        assert_eq!(
+            unlike(&call, &other, &[("number", 9), ("energy", 0)]),
+            ["  energy: library 256, document 01 0"]
         );
     }
 }

@@ -1,7 +1,7 @@
 //! The static library and the second program, called with the same inputs.
 //!
-//! The inputs are made of the second program's plain types. The boundary's structs are
-//! named in `boundary` and `fields`, its functions in `linked` and `serve.c`, nowhere else.
+//! The inputs are made of the second program's plain types, and of bytes. The boundary's functions are
+//! named in `linked` and `serve.c`, nowhere else.
 
 pub mod arguments;
 pub mod boundary;

@@ -1,6 +1,6 @@
 //! The static library in this process.
 
-use crate::boundary::{self, bytes, put_words};
+use crate::boundary::{bytes, put_words};
 use crate::calls::Call;
 use crate::library::Library;
 use piszczalin::raw;
@@ -25,7 +25,7 @@ impl Library for Linked {
 fn one(call: &Call, answers: &mut Vec<u8>) {
     match call {
         Call::Start(lists) => answers.extend_from_slice(bytes(&start(lists))),
-        Call::Now(state) => answers.extend_from_slice(bytes(&now(boundary::state(state)))),
+        Call::Now(state) => answers.extend_from_slice(bytes(&now(*state))),
         Call::Tick {
             state,
             report,
@@ -33,11 +33,11 @@ fn one(call: &Call, answers: &mut Vec<u8>) {
         } => {
             let mut grants = grants.clone();
             let lent = grants.len() - 1;
-            let ticked = tick(boundary::state(state), report, &mut grants[..lent]);
+            let ticked = tick(*state, report, &mut grants[..lent]);
             answers.extend_from_slice(bytes(&ticked));
             put_words(answers, &grants);
         }
-        Call::Energy(state) => answers.extend_from_slice(bytes(&energy(boundary::state(state)))),
+        Call::Energy(state) => answers.extend_from_slice(bytes(&energy(*state))),
     }
 }
 
@@ -58,7 +58,7 @@ pub fn start([periods, reserves, speeds, volts]: &[Vec<u64>; 4]) -> raw::Started
 }
 
 pub fn now(state: raw::State) -> raw::Told {
-    // SAFETY: the state goes by value, and its marks are bools.
+    // SAFETY: the state goes by value, and may be of any bytes.
     unsafe { raw::piszczalin_now(state) }
 }
 
@@ -76,6 +76,6 @@ pub fn tick(state: raw::State, report: &[u64], grants: &mut [u64]) -> raw::Ticke
 }
 
 pub fn energy(state: raw::State) -> raw::Used {
-    // SAFETY: the state goes by value, and its marks are bools.
+    // SAFETY: the state goes by value, and may be of any bytes.
     unsafe { raw::piszczalin_energy(state) }
 }

@@ -1,6 +1,6 @@
 //! The static library in a process of its own, `serve`: calls and answers as frames over pipes.
 
-use crate::boundary::{bytes, put_words, state};
+use crate::boundary::{bytes, put_words};
 use crate::calls::Call;
 use crate::library::Library;
 use std::io::{Error, Read, Result, Write};
@@ -87,7 +87,7 @@ fn put_frame(frames: &mut Vec<u8>, call: &Call) {
         }
         Call::Now(given) | Call::Energy(given) => {
             put_head(frames, word, [0; 4]);
-            frames.extend_from_slice(bytes(&state(given)));
+            frames.extend_from_slice(bytes(given));
         }
         Call::Tick {
             state: given,
@@ -96,7 +96,7 @@ fn put_frame(frames: &mut Vec<u8>, call: &Call) {
         } => {
             let counts = [report.len() as u64, grants.len() as u64 - 1, 0, 0];
             put_head(frames, word, counts);
-            frames.extend_from_slice(bytes(&state(given)));
+            frames.extend_from_slice(bytes(given));
             put_words(frames, report);
             put_words(frames, grants);
         }

@@ -98,7 +98,10 @@ impl Governor for Library {
         Seen {
             done: self.0.done.0,
             run: plain(&self.0.jobs.run[..tasks]),
-            over: self.0.jobs.over[..tasks].iter().map(|&mark| mark == 1).collect(),
+            over: self.0.jobs.over[..tasks]
+                .iter()
+                .map(|&mark| mark == 1)
+                .collect(),
             counts: plain(&self.0.tally.counts[..speeds]),
             idle: self.0.tally.idle.0,
             late: self.0.tally.late,

@@ -1,5 +1,7 @@
 //! The kinds of inputs.
 
+mod bytes;
+mod cases;
 mod changes;
 mod lists;
 mod nonsense;
@@ -21,7 +23,7 @@ const fn kind(name: &'static str, rounds: usize, play: fn(&mut Random, usize, &m
 }
 
 /// Every kind.
-pub const KINDS: [Kind; 19] = [
+pub const KINDS: [Kind; 24] = [
     kind(
         "start: every four lengths from 0 to 20",
         441,
@@ -72,6 +74,18 @@ pub const KINDS: [Kind; 19] = [
         15_000,
         changes::sums_past_a_word,
     ),
+    kind("states of random bytes", 20_000, bytes::random),
+    kind("one byte changed in a sound state", 200, bytes::one_changed),
+    kind(
+        "one mark neither 0 nor 1 in a sound state",
+        1_000,
+        bytes::one_mark,
+    ),
+    kind(
+        "marks of random bytes in a state of any kind",
+        40_000,
+        bytes::some_marks,
+    ),
     kind("states of random words", 20_000, nonsense::words),
     kind("states of small numbers", 20_000, nonsense::small_numbers),
     kind(
@@ -88,6 +102,11 @@ pub const KINDS: [Kind; 19] = [
         "reports with an edge value at each place",
         1_500,
         lists::edge_values,
+    ),
+    kind(
+        "document 01's cases to be run, with the answers it names",
+        cases::CASES.len(),
+        cases::play,
     ),
 ];
 
