@@ -1,16 +1,14 @@
 // The boundary: the governor's four calls under plain names, for C and Rust to link. Structs are laid out as C lays them out, a list is a
 // pointer and a length, now's choice goes over in plain numbers, and a mark is a byte: any bytes are a state, and 9 is for those that are none.
+mod choices;
 mod marks;
 
 ghost use mathlib.Core.Path.{_≡_};
 ghost use lib.ListN.{length};
-ghost use Rattle.piszczalin.specs.Plain.{plainOf};
 ghost use Rattle.piszczalin.specs.Calls.{plainStart, plainNow, plainTick, plainGrants, plainEnergy};
-use rules::Choice;
 use rules::Ladder;
 use rules::Tally;
 use rules::Tasks;
-use rules::Told;
 use rules::Used;
 use units::Cycles;
 use units::Speed;
@@ -87,7 +85,7 @@ pub extern "C" fn piszczalin_now(state: PlainState) -> PlainTold
             speed: Speed(0),
         };
     }
-    plainly(governor::now(marks::state_of(state)))
+    choices::plainly(governor::now(marks::state_of(state)))
 }
 
 // tick: from any state and a report to the next state, each task's cycles written to the grants list; refused (9 to 13), the state given and the list as it was.
@@ -128,30 +126,4 @@ pub extern "C" fn piszczalin_energy(state: PlainState) -> Used
         };
     }
     governor::energy(marks::state_of(state))
-}
-
-// An answer of now in plain numbers.
-fn plainly(told: Told) -> PlainTold
-    ensures { λ r. ⌜ r ≡ plainOf told ⌝ }
-{
-    let number = told.number;
-    let speed = told.speed;
-    let choice = told.choice;
-    match choice {
-        Choice::Task {
-            number: task,
-            deadline,
-        } => PlainTold {
-            number: number,
-            task: task,
-            deadline: deadline,
-            speed: speed,
-        },
-        Choice::Nothing => PlainTold {
-            number: number,
-            task: 0,
-            deadline: Ticks(0),
-            speed: speed,
-        },
-    }
 }

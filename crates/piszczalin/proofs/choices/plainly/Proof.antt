@@ -7,8 +7,8 @@ use Rattle.rules.specs.declared.Choice.{Choice}
 use Rattle.rules.specs.Choice.{taskOf, dueOf}
 use Rattle.piszczalin.specs.declared.PlainTold.{PlainTold}
 use Rattle.piszczalin.specs.Plain.{plainOf}
-use Rattle.piszczalin.proofs.plainly.Statement.{statement}
-use Rattle.piszczalin.proofs.plainly.Tie as tie
+use Rattle.piszczalin.proofs.choices.plainly.Statement.{statement}
+use Rattle.piszczalin.proofs.choices.plainly.Tie as tie
 
 -- an answer with this choice, in plain numbers
 unfoldable withChoice : Told → Choice → PlainTold
