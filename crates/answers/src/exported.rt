@@ -42,6 +42,7 @@ pub(crate) struct TwoPlainTicked {
     pub(crate) second: PlainTicked,
 }
 
+// Beside the governor's own.
 pub(crate) fn exported_start(
     periods: &[u64],
     reserves: &[u64],
@@ -93,6 +94,7 @@ pub(crate) fn exported_energy(state: State, plain: PlainState) -> TwoUsed
     }
 }
 
+// Twice, for any input: a state may be any bytes.
 pub(crate) fn start_twice(
     periods: &[u64],
     reserves: &[u64],
@@ -116,6 +118,7 @@ pub(crate) fn now_twice(state: PlainState) -> TwoPlainTold
     }
 }
 
+// Two grants lists that are equal before the calls are equal after them.
 pub(crate) fn tick_twice(
     state: PlainState,
     report: &[u64],

@@ -1,8 +1,6 @@
 -- Bytes that are no marks are refused with 9 and given back; else the answer is that of the state, which a refused tick gives back byte for byte.
 use borrow.Author.Needs.{needs}
 use mathlib.Core.Path.{ap, _∙_}
-use mathlib.Core.List.{List}
-use Prim.Native.Nat.{ℕ}
 use lib.ListN.{length}
 use Rattle.rules.specs.declared.State.{State}
 use Rattle.rules.specs.Calls.{tickOf, grantsOf}

@@ -1,6 +1,6 @@
 -- `overs` turns the marks place by place: what is turned and the rest turned behind it are the marks turned.
 use borrow.Author.Needs.{needs}
-use mathlib.Core.Path.{_≡_, refl, sym, ap, _∙_}
+use mathlib.Core.Path.{_≡_, refl, sym, _∙_}
 use mathlib.Core.List.{map}
 use Prim.Native.Nat.{_-_}
 use native.Mathlib.Omega.{arith}
