@@ -19,6 +19,7 @@ use Rattle.runfile.specs.declared.RunFile.{RunFile}
 use Rattle.runfile.specs.RunFile.{runFileOf}
 use Rattle.runfile.specs.Good.{GoodEnds, GoodFile}
 use Rattle.runfile.proofs.Good.{good-file}
+use Rattle.player.specs.declared.Outcome.the-variants.{Ended, NoRoom}
 use Rattle.player.specs.declared.Played.{Played}
 use Rattle.player.specs.Plays.{endsOf, endsIn, ended, playFrom, playFile, playOf}
 use Rattle.player.specs.Rows.{rowsOf, enough, playedOf, rowsIn}
@@ -45,7 +46,7 @@ module _ (ps cs ss vs : List ℕ) (r : Started) (told : r ≡ startOf ps cs ss v
 -- a text, the run file that was read from it, and a list of rows
 module _ (text : List ℕ) (f : RunFile) (read : f ≡ runFileOf text) (rows : List ℕ) where
   -- no run file
-  pub no-file : (f .number ≡ 0 → ⊥) → (unplayedAs true 14 ≡ playedOf text (length rows)) × (rows ≡ rowsIn text rows)
+  pub no-file : (f .number ≡ 0 → ⊥) → (unplayedAs (Ended 14) ≡ playedOf text (length rows)) × (rows ≡ rowsIn text rows)
   unfolding unplayedAs playedOf rowsIn enough playOf ended rowsOf
   no-file z = (rw (← read, ne-eqb (f .number) 0 z), rw (← read, ne-eqb (f .number) 0 z))
 
@@ -63,14 +64,14 @@ module _ (text : List ℕ) (f : RunFile) (read : f ≡ runFileOf text) (rows : L
           rw (n, m) at told
 
       -- refused
-      pub no-start : (r .number ≡ 0 → ⊥) → (unplayedAs true (r .number) ≡ playedOf text (length rows)) × (rows ≡ rowsIn text rows)
+      pub no-start : (r .number ≡ 0 → ⊥) → (unplayedAs (Ended (r .number)) ≡ playedOf text (length rows)) × (rows ≡ rowsIn text rows)
       unfolding unplayedAs playedOf rowsIn enough playOf playFile ended rowsOf
       no-start z =
           let none = start-refused _ _ _ _ r told z in
           (rw (← read, e, ← told-so, ne-eqb (r .number) 0 z, none), rw (← read, e, ← told-so, ne-eqb (r .number) 0 z))
 
       -- accepted, without room for its rows
-      pub no-room : r .number ≡ 0 → length rows < f .ticks * (f .tasks .count + 2) → (unplayedAs false 0 ≡ playedOf text (length rows)) × (rows ≡ rowsIn text rows)
+      pub no-room : r .number ≡ 0 → length rows < f .ticks * (f .tasks .count + 2) → (unplayedAs NoRoom ≡ playedOf text (length rows)) × (rows ≡ rowsIn text rows)
       unfolding unplayedAs playedOf rowsIn enough
       no-room z h = (rw (← read, e, ← told-so, z, lt-leb _ _ h), rw (← read, e, ← told-so, z, lt-leb _ _ h))
 

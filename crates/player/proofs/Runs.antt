@@ -22,6 +22,7 @@ use Rattle.rules.specs.Calls.{tickOf, grantsOf}
 use Rattle.rules.proofs.Lists.{length-upTo}
 use Rattle.rules.proofs.CallRows.{tick-accepted}
 use Rattle.words.proofs.Stores.{sets-append}
+use Rattle.player.specs.declared.Outcome.the-variants.{Ended}
 use Rattle.player.specs.Plays.{End, Play, reportOf, tickPlayed, ended, before, playFrom}
 use Rattle.player.specs.Rows.{rowOf, rowsOf}
 use Rattle.player.specs.Parts.{pastTick, playedAs}
@@ -95,7 +96,7 @@ going-first ends when run first rows fresh =
 
 module _ (ends : List End) (when : List ℕ) (run : ℕ) (first : State) (rows₀ : List ℕ) (s : State) (rows : List ℕ) (t next at : ℕ) (g : Going ends when run first rows₀ s rows t next at) where
   -- after its last tick nothing is, and it ended with 0
-  pub going-ends : run ≤ t → (record { room = true; number = 0; state = s } ≡ playedAs (playFrom ends run first)) × (rows ≡ sets rows₀ 0 (rowsOf (playFrom ends run first .ticks)))
+  pub going-ends : run ≤ t → (record { outcome = Ended 0; state = s } ≡ playedAs (playFrom ends run first)) × (rows ≡ sets rows₀ 0 (rowsOf (playFrom ends run first .ticks)))
   unfolding playFrom ended playedAs rowsOf
   going-ends h =
       let none : run - t ≡ 0 = omega arith in
@@ -127,7 +128,7 @@ module _ (ends : List End) (when : List ℕ) (run : ℕ) (first : State) (rows�
     one-more = omega arith
 
     -- refused: the run ends in the state at hand, and its row is as it was
-    pub turn-refused : (r .number ≡ 0 → ⊥) → (record { room = true; number = r .number; state = s } ≡ playedAs (playFrom ends run first)) × (putMid at (at + first .tasks .count + 2 - at) rows row ≡ sets rows₀ 0 (rowsOf (playFrom ends run first .ticks)))
+    pub turn-refused : (r .number ≡ 0 → ⊥) → (record { outcome = Ended (r .number); state = s } ≡ playedAs (playFrom ends run first)) × (putMid at (at + first .tasks .count + 2 - at) rows row ≡ sets rows₀ 0 (rowsOf (playFrom ends run first .ticks)))
     unfolding playedAs ended rowsOf
     turn-refused z =
         let stops : playFrom ends (run - t) s ≡ ended (r .number) s = ap (λ k. playFrom ends k s) one-more ∙ play-stops ends (run - (t + 1)) s r ticked z in

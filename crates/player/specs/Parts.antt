@@ -1,7 +1,7 @@
 -- What the parts of the player do, for their contracts.
 use Prim.Native.Nat.{ℕ, zero, suc, _+_, _-_, _*_, _≤_, _<_}
 use mathlib.Core.Path.{_≡_}
-use mathlib.Core.Bool.{Bool, true, cond}
+use mathlib.Core.Bool.{cond}
 use mathlib.Core.List.{List, [], _∷_}
 use lib.Dec.{eqb}
 use lib.ListN.{length, getD, set, drop}
@@ -9,15 +9,17 @@ use Rattle.rules.specs.declared.State.{State}
 use Rattle.rules.specs.Calls.{zeroState}
 use Rattle.runfile.specs.declared.Ends.{Ends}
 use Rattle.runfile.specs.Good.{GoodEnds}
+use Rattle.player.specs.declared.Outcome.{Outcome}
+use Rattle.player.specs.declared.Outcome.the-variants.{Ended}
 use Rattle.player.specs.declared.Played.{Played}
 use Rattle.player.specs.Plays.{Play}
 
 -- nothing played, and a run played
-unfoldable pub unplayedAs : Bool → ℕ → Played
-unplayedAs room number = record { room = room; number = number; state = zeroState }
+unfoldable pub unplayedAs : Outcome → Played
+unplayedAs outcome = record { outcome = outcome; state = zeroState }
 
 unfoldable pub playedAs : Play → Played
-playedAs p = record { room = true; number = p .number; state = p .state }
+playedAs p = record { outcome = Ended (p .number); state = p .state }
 
 -- how many numbers in front of a list are t; the place of the first end line, from a place on, that is not of tick t
 unfoldable pub inFront : ℕ → List ℕ → ℕ

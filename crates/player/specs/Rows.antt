@@ -8,6 +8,7 @@ use lib.Seq.{sets}
 use Rattle.rules.specs.Calls.{zeroState}
 use Rattle.runfile.specs.declared.RunFile.{RunFile}
 use Rattle.runfile.specs.RunFile.{runFileOf}
+use Rattle.player.specs.declared.Outcome.the-variants.{Ended, NoRoom}
 use Rattle.player.specs.declared.Played.{Played}
 use Rattle.player.specs.Plays.{Tick, startIn, playOf}
 
@@ -28,8 +29,8 @@ enough f places =
 unfoldable pub playedOf : List ℕ → ℕ → Played
 playedOf text places =
     cond (enough (runFileOf text) places)
-    (record { room = true; number = playOf text .number; state = playOf text .state })
-    (record { room = false; number = 0; state = zeroState })
+    (record { outcome = Ended (playOf text .number); state = playOf text .state })
+    (record { outcome = NoRoom; state = zeroState })
 
 -- the lent list after it: the rows of the ticks done, from its first place on; without room, as it was
 unfoldable pub rowsIn : List ℕ → List ℕ → List ℕ

@@ -6,10 +6,15 @@ ghost use lib.ListN.{length};
 ghost use Rattle.player.specs.Rows.{playedOf, rowsIn};
 use rules::State;
 
-// How a run ended: number 0 and the final state, or the number of the refusal and the state that it was met in. Without room for the rows nothing is played: number 0 and the all-zero state.
+// How a run ended: with number 0, or with the number of the refusal; or it was not played, since there is no room for its rows.
+pub enum Outcome {
+    Ended(u64),
+    NoRoom,
+}
+
+// A run played: how it ended, and the final state or the state that the refusal was met in; the all-zero state where nothing was played.
 pub struct Played {
-    pub room: bool,
-    pub number: u64,
+    pub outcome: Outcome,
     pub state: State,
 }
 
@@ -23,7 +28,7 @@ pub fn play(text: &[u8], rows: &mut [u64]) -> Played
 {
     let file = runfile::read(text);
     if file.number != 0 {
-        return ticks::unplayed(true, 14);
+        return ticks::unplayed(Outcome::Ended(14));
     }
     let tasks = file.tasks;
     let speeds = file.speeds;
@@ -40,10 +45,10 @@ pub fn play(text: &[u8], rows: &mut [u64]) -> Played
         &volts[0..m],
     );
     if started.number != 0 {
-        return ticks::unplayed(true, started.number);
+        return ticks::unplayed(Outcome::Ended(started.number));
     }
     if rows.len() < file.ticks as usize * (n + 2) {
-        return ticks::unplayed(false, 0);
+        return ticks::unplayed(Outcome::NoRoom);
     }
     ticks::play_run(started.state, file.ends, file.ticks, rows)
 }

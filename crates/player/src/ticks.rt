@@ -10,6 +10,7 @@ ghost use Rattle.rules.specs.Calls.{tickOf};
 ghost use Rattle.player.specs.Plays.{endsOf, tickPlayed, playFrom};
 ghost use Rattle.player.specs.Rows.{rowOf, rowsOf};
 ghost use Rattle.player.specs.Parts.{unplayedAs, playedAs, pastTick, Runnable, entered, Named};
+use crate::Outcome;
 use crate::Played;
 use rules::State;
 use rules::Tally;
@@ -46,8 +47,7 @@ pub(crate) fn play_run(state: State, ends: Ends, run: u64, rows: &mut [u64]) -> 
         let ticked = play_tick(current, &report[0..n], &mut rows[at..after]);
         if ticked.number != 0 {
             return Played {
-                room: true,
-                number: ticked.number,
+                outcome: Outcome::Ended(ticked.number),
                 state: current,
             };
         }
@@ -56,8 +56,7 @@ pub(crate) fn play_run(state: State, ends: Ends, run: u64, rows: &mut [u64]) -> 
         t += 1;
     }
     Played {
-        room: true,
-        number: 0,
+        outcome: Outcome::Ended(0),
         state: current,
     }
 }
@@ -129,15 +128,14 @@ pub(crate) fn sum(values: &[u64]) -> u64
     sofar
 }
 
-// Nothing played: whether there was room, the number, and the all-zero state, which start gives for no table.
-pub(crate) fn unplayed(room: bool, number: u64) -> Played
-    ensures { λ r. ⌜ r ≡ unplayedAs room number ⌝ }
+// Nothing played: why, and the all-zero state, which start gives for no table.
+pub(crate) fn unplayed(outcome: Outcome) -> Played
+    ensures { λ r. ⌜ r ≡ unplayedAs outcome ⌝ }
 {
     let none = governor::start(&[], &[], &[], &[]);
     let state = none.state;
     Played {
-        room: room,
-        number: number,
+        outcome: outcome,
         state: state,
     }
 }

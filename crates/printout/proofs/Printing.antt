@@ -1,5 +1,5 @@
 -- What print asks of a play: its rows in a list of 180,000 places, which are always enough, can be rendered, and so they are the printout of the text. From the laws about plays and that no printout is longer than 1,500,200 bytes.
-use mathlib.Core.Path.{_≡_, ap, _∙_}
+use mathlib.Core.Path.{_≡_, sym, ap, _∙_}
 use mathlib.Core.Bool.{true}
 use mathlib.Core.List.{List, _++_}
 use Prim.Native.Nat.{ℕ, _+_, _≤_}
@@ -8,6 +8,7 @@ use native.Mathlib.Omega.{arith}
 use lib.ListN.{length, drop}
 use lib.Seq.{sets-eq, length-sets}
 use Rattle.runfile.specs.RunFile.{runFileOf}
+use Rattle.player.specs.declared.Outcome.the-variants.{Ended, NoRoom}
 use Rattle.player.specs.declared.Played.{Played}
 use Rattle.player.specs.Plays.{Play, playOf}
 use Rattle.player.specs.Rows.{rowsOf, enough, playedOf, rowsIn}
@@ -68,10 +69,21 @@ module _ (text table : List ℕ) (places : length table ≡ mostPlaces) where
       }
 
   -- what play answers for such a list
-  played-is : playedOf text (length table) ≡ record { room = true; number = play .number; state = play .state }
+  played-is : playedOf text (length table) ≡ record { outcome = Ended (play .number); state = play .state }
   unfolding playedOf
   played-is = rw has-room
 
-  -- so whatever it answered, with whatever it left in the list, can be rendered, and that is the printout
-  pub ready : (played : Played) (rows : List ℕ) → played ≡ playedOf text (length table) → rows ≡ rowsIn text table → Renderable (played .number) (played .state) rows × (rendered (played .number) (played .state) rows ≡ printOf text)
-  ready played rows e f = rw (f, e, played-is) (can-render, text-is)
+  module _ (played : Played) (e : played ≡ playedOf text (length table)) where
+    -- so there was room
+    pub room-there : played .outcome ≡ NoRoom → ⊥
+    room-there h =
+        let told : Ended (play .number) ≡ NoRoom = sym (ap (λ (p : Played). p .outcome) (e ∙ played-is)) ∙ h in
+        let z : _≡_ {A = ℕ} 0 1 = cc in
+        omega arith
+
+    -- and what it answered, with what it left in the list, can be rendered, and that is the printout
+    pub ready : (number : ℕ) → played .outcome ≡ Ended number → (rows : List ℕ) → rows ≡ rowsIn text table → Renderable number (played .state) rows × (rendered number (played .state) rows ≡ printOf text)
+    ready number h rows f =
+        let told : Ended number ≡ Ended (play .number) = sym h ∙ ap (λ (p : Played). p .outcome) (e ∙ played-is) in
+        let same : number ≡ play .number = cc in
+        rw (f, e, played-is, same) (can-render, text-is)

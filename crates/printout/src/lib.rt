@@ -7,6 +7,7 @@ ghost use mathlib.Core.Path.{_≡_};
 ghost use lib.ListN.{length};
 ghost use Rattle.words.specs.Words.{putIn};
 ghost use Rattle.printout.specs.Print.{printOf, printedOf};
+use player::Outcome;
 
 // How many bytes were printed, or that the buffer has no room for them.
 pub enum Printed {
@@ -21,6 +22,10 @@ pub fn print(text: &[u8], out: &mut [u8]) -> Printed
 {
     let mut table = [0u64; 180000];
     let played = player::play(text, &mut table);
+    let outcome = played.outcome;
+    let Outcome::Ended(number) = outcome else {
+        return Printed::NoRoom;
+    };
     let state = played.state;
-    whole::render(played.number, state, &table, out)
+    whole::render(number, state, &table, out)
 }

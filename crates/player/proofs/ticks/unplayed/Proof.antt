@@ -20,7 +20,7 @@ start-requires : tie.Need-start-requires
 start-requires c κs = tt
 
 returns : tie.Need-returns
-returns c = nothing-played (c .before .start .result) (c .before .start .ensures) _ _
+returns c = nothing-played (c .before .start .result) (c .before .start .ensures) _
 
 pub unplayed-spec : {M : Type 1} → statement M
 unplayed-spec =
