@@ -81,6 +81,15 @@ pub(crate) fn cycles_in(speed: Speed, ticks: Ticks) -> TwoCycles
     }
 }
 
+pub(crate) fn per_tick(cycles: Cycles) -> TwoSpeeds
+    ensures { λ r. ⌜ r .first ≡ r .second ⌝ }
+{
+    TwoSpeeds {
+        first: units::per_tick(cycles),
+        second: units::per_tick(cycles),
+    }
+}
+
 pub(crate) fn carries(speed: Speed, ticks: Ticks, load: Cycles) -> TwoTests
     ensures { λ r. ⌜ r .first ≡ r .second ⌝ }
 {

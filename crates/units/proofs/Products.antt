@@ -2,13 +2,14 @@
 use mathlib.Core.Path.{_≡_, refl, sym, ap, _∙_}
 use mathlib.Core.Bool.{Bool, true, false}
 use Prim.Native.Nat.{ℕ, _*_, _/_, _^_, _≤_, _<_, min}
-use native.Mathlib.Nat.{mul-le-mul, mul-zero, min-eq-left, min-eq-right, div-lt-iff-lt-mul, le-div-iff-mul-le, lt-of-le-of-lt, le-of-lt}
+use native.Mathlib.Nat.{mul-le-mul, mul-zero, mul-one, min-eq-left, min-eq-right, div-lt-iff-lt-mul, le-div-iff-mul-le, lt-of-le-of-lt, le-of-lt}
 use native.Mathlib.Omega.{arith}
 use lib.Dec.{lit<, leb}
 use borrow.Author.Tests.{le-leb, lt-leb, leb-true, leb-false}
+use Rattle.units.specs.declared.Cycles.{Cycles}
 use Rattle.units.specs.declared.Speed.{Speed}
 use Rattle.units.specs.declared.Ticks.{Ticks}
-use Rattle.units.specs.Units.{cycles, mostCount, cyclesIn}
+use Rattle.units.specs.Units.{ticks, cycles, speed, mostCount, cyclesIn, perTick}
 
 -- two numbers below 2 ^ 32 have a product that fits
 pub small-fits : {s t : ℕ} → s < 4294967296 → t < 4294967296 → s * t < 2 ^ 64
@@ -55,3 +56,13 @@ load-compared s t l h = go (leb l (s .0 * t .0)) refl
     go false e =
         let k : s .0 * t .0 < l = leb-false _ _ e in
         lt-leb l (min (s .0 * t .0) mostCount) (omega arith) ∙ sym e
+
+-- at the speed of so many cycles per tick, one tick has so many cycles
+pub one-tick : (c : Cycles) → c .0 ≤ mostCount → cyclesIn (perTick c) (ticks 1) ≡ c
+unfolding cyclesIn
+one-tick c h = ap cycles (ap (λ (n : ℕ). min n mostCount) (mul-one (c .0)) ∙ min-eq-left h)
+
+-- and no other speed has as many
+pub one-speed : (s : Speed) → s .0 ≤ mostCount → perTick (cyclesIn s (ticks 1)) ≡ s
+unfolding cyclesIn
+one-speed s h = ap speed (ap (λ (n : ℕ). min n mostCount) (mul-one (s .0)) ∙ min-eq-left h)

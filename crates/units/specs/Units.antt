@@ -1,4 +1,4 @@
--- Counts in their units, and the one way from ticks to cycles.
+-- Counts in their units, the one way from ticks to cycles, and the one from the cycles of a tick to its speed.
 use Prim.Native.Nat.{ℕ, _*_, min}
 use Rattle.units.specs.declared.Ticks.{Ticks}
 use Rattle.units.specs.declared.Cycles.{Cycles}
@@ -25,3 +25,7 @@ mostCount = 18_446_744_073_709_551_615
 -- speed x ticks, or the largest count where that is more
 unfoldable pub cyclesIn : Speed → Ticks → Cycles
 cyclesIn s t = cycles (min (s .0 * t .0) mostCount)
+
+-- "a speed is cycles per tick": the speed at which one tick has so many cycles
+abbrev pub perTick : Cycles → Speed
+perTick c = speed (c .0)

@@ -1,8 +1,8 @@
-// Ticks, cycles, speeds and volts as types of their own. A count of ticks becomes a count of cycles only here, through a speed.
+// Ticks, cycles, speeds and volts as types of their own. A count of ticks becomes a count of cycles only here, through a speed, and a count of cycles a speed.
 ghost use mathlib.Core.Path.{_≡_};
 ghost use Prim.Native.Nat.{_*_};
 ghost use lib.Dec.{leb};
-ghost use Rattle.units.specs.Units.{cyclesIn};
+ghost use Rattle.units.specs.Units.{cyclesIn, perTick};
 
 // A count of ticks, the clock's steps.
 #[repr(C)]
@@ -38,6 +38,13 @@ pub fn cycles_in(speed: Speed, ticks: Ticks) -> Cycles
         return Cycles(18446744073709551615);
     }
     Cycles(s * t)
+}
+
+// The speed at which one tick has so many cycles.
+pub fn per_tick(cycles: Cycles) -> Speed
+    ensures { λ r. ⌜ r ≡ perTick cycles ⌝ }
+{
+    Speed(cycles.0)
 }
 
 // Rule 2: whether a speed carries a load over so many ticks, for every three numbers.
