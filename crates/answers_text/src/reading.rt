@@ -4,6 +4,7 @@ use decimal::Field;
 use lines::EndLine;
 use lines::LineEnd;
 use lines::PairLine;
+use lines::RunLine;
 use runfile::RunFile;
 
 pub(crate) struct TwoTests {
@@ -34,6 +35,11 @@ pub(crate) struct TwoPairLines {
 pub(crate) struct TwoEndLines {
     pub(crate) first: EndLine,
     pub(crate) second: EndLine,
+}
+
+pub(crate) struct TwoRunLines {
+    pub(crate) first: RunLine,
+    pub(crate) second: RunLine,
 }
 
 pub(crate) struct TwoRunFiles {
@@ -113,10 +119,10 @@ pub(crate) fn end_line(text: &[u8], at: usize) -> TwoEndLines
     }
 }
 
-pub(crate) fn run_line(text: &[u8], at: usize) -> TwoFields
+pub(crate) fn run_line(text: &[u8], at: usize) -> TwoRunLines
     ensures { λ r. ⌜ r .first ≡ r .second ⌝ }
 {
-    TwoFields {
+    TwoRunLines {
         first: lines::run_line(text, at),
         second: lines::run_line(text, at),
     }

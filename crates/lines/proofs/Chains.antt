@@ -3,6 +3,7 @@ use mathlib.Core.Path.{_≡_, sym, ap, _∙_}
 use mathlib.Core.Bool.{Bool, true, false, cond}
 use mathlib.Core.List.{List}
 use Prim.Native.Nat.{ℕ, _+_}
+use Rattle.units.specs.Units.{ticks, cycles}
 use Rattle.words.specs.Words.{standsAt}
 use Rattle.decimal.specs.declared.Field.{Field}
 use Rattle.decimal.specs.declared.Field.the-variants.{Number, NoNumber}
@@ -11,7 +12,8 @@ use Rattle.lines.specs.declared.LineEnd.{LineEnd}
 use Rattle.lines.specs.declared.LineEnd.the-variants.{Next, Missing}
 use Rattle.lines.specs.declared.PairLine.the-variants.{Pair, WrongPair}
 use Rattle.lines.specs.declared.EndLine.the-variants.{End, WrongEnd}
-use Rattle.lines.specs.Lines.{byteAt, lineEnd, pastComma, numberComma, endedBy, pastEnd, numberEnd, fromSecond, fromFirst, pairAt, fromCycles, fromTask, fromTick, endAt, runWord, runAt}
+use Rattle.lines.specs.declared.RunLine.the-variants.{Run, WrongRun}
+use Rattle.lines.specs.Lines.{byteAt, lineEnd, pastComma, numberComma, endedBy, pastEnd, numberEnd, fromSecond, fromFirst, pairAt, fromCycles, fromTask, fromTick, endAt, runWord, fromRun, runAt}
 
 -- an answer r that is x, and is what a definition goes on from: the definition goes on from x
 told : {A B : Type 0} (go : A → B) {r f x : A} → r ≡ f → r ≡ x → go x ≡ go f
@@ -81,17 +83,23 @@ module _ (text : List ℕ) (at : ℕ) {r : Field} (e : r ≡ numberComma text at
     cycles-none {w} q f p = told (fromCycles v w) f p ∙ told (fromTask text v) d q ∙ told (fromTick text) e h
 
     -- three numbers
-    pub end-whole : {w m x k : ℕ} {t : Field} → s ≡ Number w m → t ≡ numberEnd text m → t ≡ Number x k → End v w x k ≡ endAt text at
+    pub end-whole : {w m x k : ℕ} {t : Field} → s ≡ Number w m → t ≡ numberEnd text m → t ≡ Number x k → End (ticks v) w (cycles x) k ≡ endAt text at
     unfolding endAt fromTick fromTask fromCycles
     end-whole {w} q f p = told (fromCycles v w) f p ∙ told (fromTask text v) d q ∙ told (fromTick text) e h
 
 module _ (text : List ℕ) (at : ℕ) {r : Bool} (e : r ≡ standsAt text at runWord) where
   -- another word: no run line
-  pub run-none : r ≡ false → NoNumber ≡ runAt text at
+  pub run-none : r ≡ false → WrongRun ≡ runAt text at
   unfolding runAt
-  run-none h = told (λ (t : Bool). cond t (numberEnd text (at + 4)) NoNumber) e h
+  run-none h = told (λ (t : Bool). cond t (fromRun (numberEnd text (at + 4))) WrongRun) e h
 
-  -- the word, and the number after it
-  pub run-there : r ≡ true → {f : Field} → f ≡ numberEnd text (at + 4) → f ≡ runAt text at
-  unfolding runAt
-  run-there h d = d ∙ told (λ (t : Bool). cond t (numberEnd text (at + 4)) NoNumber) e h
+  module _ (h : r ≡ true) {f : Field} (d : f ≡ numberEnd text (at + 4)) where
+    -- the word, and no number after it: no run line
+    pub run-empty : f ≡ NoNumber → WrongRun ≡ runAt text at
+    unfolding runAt fromRun
+    run-empty q = told fromRun d q ∙ told (λ (t : Bool). cond t (fromRun (numberEnd text (at + 4))) WrongRun) e h
+
+    -- the word, and the number after it
+    pub run-there : {v n : ℕ} → f ≡ Number v n → Run (ticks v) n ≡ runAt text at
+    unfolding runAt fromRun
+    run-there q = told fromRun d q ∙ told (λ (t : Bool). cond t (fromRun (numberEnd text (at + 4))) WrongRun) e h

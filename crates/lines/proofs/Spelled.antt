@@ -8,6 +8,7 @@ use native.Mathlib.Omega.{arith}
 use borrow.Author.Tests.{eq-eqb}
 use lib.ListN.{length, getD, drop, length-drop, length-append}
 use lib.Seq.{drop-drop, drop-append-seam, getD-drop}
+use Rattle.units.specs.Units.{ticks, cycles}
 use Rattle.words.specs.Words.{begins, standsAt}
 use Rattle.decimal.specs.declared.Field.the-variants.{Number}
 use Rattle.decimal.specs.Decimal.{digits, decimalOf}
@@ -16,6 +17,7 @@ use Rattle.decimal.proofs.ReadBack.{no-digits-nil, no-digits-low, read-at}
 use Rattle.lines.specs.declared.LineEnd.the-variants.{Next}
 use Rattle.lines.specs.declared.PairLine.the-variants.{Pair}
 use Rattle.lines.specs.declared.EndLine.the-variants.{End}
+use Rattle.lines.specs.declared.RunLine.the-variants.{Run}
 use Rattle.lines.specs.Lines.{runWord, byteAt, lineEnd, numberComma, numberEnd, pairAt, endAt, runAt}
 use Rattle.lines.specs.Spelled.{LineBreak, lf, crlf, breakBytes, LastBreak, lacking, ended, lastBytes, twoNumbers, threeNumbers, runLine}
 use Rattle.lines.proofs.Breaks.{byte-there, end-of-text, lf-ends, cr-lf}
@@ -116,7 +118,7 @@ two-read text at a b k rest fa fb e =
 
 -- three numbers of a line
 pub three-read : (text : List ℕ) (at a b c : ℕ) (k : LineBreak) (rest : List ℕ) → a < 2 ^ 64 → b < 2 ^ 64 → c < 2 ^ 64 → drop at text ≡ threeNumbers a b c k rest
-    → (n : ℕ) × (endAt text at ≡ End a b c n) × (drop n text ≡ rest)
+    → (n : ℕ) × (endAt text at ≡ End (ticks a) b (cycles c) n) × (drop n text ≡ rest)
 unfolding threeNumbers
 three-read text at a b c k rest fa fb fc e =
     let one = comma-read text at a fa (decimalOf b ++ (44 ∷ (decimalOf c ++ (breakBytes k ++ rest)))) e in
@@ -125,8 +127,8 @@ three-read text at a b c k rest fa fb fc e =
     (two .0 + length (decimalOf c) + length (breakBytes k), sym (end-whole text at refl (one .1) refl (two .1) refl (three .0)), three .1)
 
 -- the run line
-pub run-read : (text : List ℕ) (at ticks : ℕ) (k : LastBreak) → ticks < 2 ^ 64 → drop at text ≡ runLine ticks k → runAt text at ≡ Number ticks (length text)
+pub run-read : (text : List ℕ) (at run : ℕ) (k : LastBreak) → run < 2 ^ 64 → drop at text ≡ runLine run k → runAt text at ≡ Run (ticks run) (length text)
 unfolding runLine runWord
-run-read text at ticks k fit e =
-    let next : drop (at + 4) text ≡ decimalOf ticks ++ lastBytes k = after-front text at runWord (decimalOf ticks ++ lastBytes k) e in
-    sym (run-there text at refl (word-here text at runWord (decimalOf ticks ++ lastBytes k) e) refl) ∙ last-read text (at + 4) ticks fit k next
+run-read text at run k fit e =
+    let next : drop (at + 4) text ≡ decimalOf run ++ lastBytes k = after-front text at runWord (decimalOf run ++ lastBytes k) e in
+    sym (run-there text at refl (word-here text at runWord (decimalOf run ++ lastBytes k) e) refl (last-read text (at + 4) run fit k next))

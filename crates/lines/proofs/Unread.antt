@@ -11,6 +11,9 @@ use borrow.Author.Tests.{ltb-true, eqb-true, leb-true}
 use lib.Dec.{eqb, ltb, leb}
 use lib.ListN.{length, getD, drop, drop-of-length-le}
 use lib.Seq.{drop-cons, drop-drop}
+use Rattle.units.specs.declared.Ticks.{Ticks}
+use Rattle.units.specs.declared.Cycles.{Cycles}
+use Rattle.units.specs.Units.{ticks, cycles}
 use Rattle.words.specs.Words.{begins, standsAt}
 use Rattle.decimal.specs.declared.Field.{Field}
 use Rattle.decimal.specs.declared.Field.the-variants.{Number, NoNumber}
@@ -20,7 +23,8 @@ use Rattle.lines.specs.declared.LineEnd.{LineEnd}
 use Rattle.lines.specs.declared.LineEnd.the-variants.{Next, Missing}
 use Rattle.lines.specs.declared.PairLine.the-variants.{Pair, WrongPair}
 use Rattle.lines.specs.declared.EndLine.the-variants.{End, WrongEnd}
-use Rattle.lines.specs.Lines.{runWord, byteAt, lineEnd, pastComma, numberComma, endedBy, pastEnd, numberEnd, fromSecond, fromFirst, pairAt, fromCycles, fromTask, fromTick, endAt, runAt}
+use Rattle.lines.specs.declared.RunLine.the-variants.{Run, WrongRun}
+use Rattle.lines.specs.Lines.{runWord, byteAt, lineEnd, pastComma, numberComma, endedBy, pastEnd, numberEnd, fromSecond, fromFirst, pairAt, fromCycles, fromTask, fromTick, endAt, fromRun, runAt}
 use Rattle.lines.specs.Spelled.{LineBreak, lf, crlf, breakBytes, LastBreak, lacking, ended, lastBytes, twoNumbers, threeNumbers, runLine}
 
 -- a number is not none
@@ -32,8 +36,12 @@ no-pair : {a b n : ℕ} → WrongPair ≡ Pair a b n → ⊥
 no-pair e = let z : _≡_ {A = ℕ} 0 1 = cc in not-suc-le-zero {n = 0} (omega arith)
 
 -- a line of three numbers is not a wrong one
-no-end : {a b c n : ℕ} → WrongEnd ≡ End a b c n → ⊥
+no-end : {a : Ticks} {b : ℕ} {c : Cycles} {n : ℕ} → WrongEnd ≡ End a b c n → ⊥
 no-end e = let z : _≡_ {A = ℕ} 0 1 = cc in not-suc-le-zero {n = 0} (omega arith)
+
+-- a run line is not a wrong one
+no-run : {a : Ticks} {n : ℕ} → WrongRun ≡ Run a n → ⊥
+no-run e = let z : _≡_ {A = ℕ} 0 1 = cc in not-suc-le-zero {n = 0} (omega arith)
 
 -- a line that ends is not one that does not
 no-next : {n : ℕ} → Missing ≡ Next n → ⊥
@@ -166,26 +174,30 @@ two-front text at a b n e inside =
     )
 
 -- a third number that made a line of three is in it
-cycles-of : (a b : ℕ) (f : Field) (v w x n : ℕ) → fromCycles a b f ≡ End v w x n → (a ≡ v) × (b ≡ w) × (f ≡ Number x n)
+cycles-of : (a b : ℕ) (f : Field) (v w x n : ℕ) → fromCycles a b f ≡ End (ticks v) w (cycles x) n → (a ≡ v) × (b ≡ w) × (f ≡ Number x n)
 unfolding fromCycles
-cycles-of a b (Number c m) v w x n e = let p : c ≡ x = cc in let q : m ≡ n = cc in ((cc), (cc), ap₂ Number p q)
+cycles-of a b (Number c m) v w x n e =
+    let t : ticks a ≡ ticks v = cc in
+    let p : cycles c ≡ cycles x = cc in
+    let q : m ≡ n = cc in
+    (ap (λ (k : Ticks). k .0) t, (cc), ap₂ Number (ap (λ (k : Cycles). k .0) p) q)
 cycles-of a b NoNumber v w x n e = absurd (no-end e)
 
 -- so are a second with its comma and a third
-task-of : (text : List ℕ) (a : ℕ) (f : Field) (v w x n : ℕ) → fromTask text a f ≡ End v w x n → (a ≡ v) × ((m : ℕ) × (f ≡ Number w m) × (numberEnd text m ≡ Number x n))
+task-of : (text : List ℕ) (a : ℕ) (f : Field) (v w x n : ℕ) → fromTask text a f ≡ End (ticks v) w (cycles x) n → (a ≡ v) × ((m : ℕ) × (f ≡ Number w m) × (numberEnd text m ≡ Number x n))
 unfolding fromTask
 task-of text a (Number b m) v w x n e = let h = cycles-of a b (numberEnd text m) v w x n e in (h .0, (m, ap (λ (y : ℕ). Number y m) (h .1), h .2))
 task-of text a NoNumber v w x n e = absurd (no-end e)
 
 -- three numbers were read, two with their commas, the third with the line's end
-three-of : (text : List ℕ) (f : Field) (v w x n : ℕ) → fromTick text f ≡ End v w x n
+three-of : (text : List ℕ) (f : Field) (v w x n : ℕ) → fromTick text f ≡ End (ticks v) w (cycles x) n
     → (m : ℕ) × (f ≡ Number v m) × ((l : ℕ) × (numberComma text m ≡ Number w l) × (numberEnd text l ≡ Number x n))
 unfolding fromTick
 three-of text (Number a m) v w x n e = let h = task-of text a (numberComma text m) v w x n e in (m, ap (λ (y : ℕ). Number y m) (h .0), h .1)
 three-of text NoNumber v w x n e = absurd (no-end e)
 
 -- a line of three numbers that is not the last is spelled so
-pub three-front : (text : List ℕ) (at a b c n : ℕ) → endAt text at ≡ End a b c n → n < length text
+pub three-front : (text : List ℕ) (at a b c n : ℕ) → endAt text at ≡ End (ticks a) b (cycles c) n → n < length text
     → (a < 2 ^ 64) × (b < 2 ^ 64) × (c < 2 ^ 64) × ((k : LineBreak) × (drop at text ≡ threeNumbers a b c k (drop n text)))
 unfolding endAt threeNumbers
 three-front text at a b c n e inside =
@@ -202,21 +214,30 @@ three-front text at a b c n e inside =
           (three .1),
     )
 
+-- a number that made a run line is in it
+run-of : (f : Field) (v n : ℕ) → fromRun f ≡ Run (ticks v) n → f ≡ Number v n
+unfolding fromRun
+run-of (Number a m) v n e =
+    let t : ticks a ≡ ticks v = cc in
+    let q : m ≡ n = cc in
+    ap₂ Number (ap (λ (k : Ticks). k .0) t) q
+run-of NoNumber v n e = absurd (no-run e)
+
 -- a run line that ends the text is spelled so
-pub run-front : (text : List ℕ) (at ticks : ℕ) → runAt text at ≡ Number ticks (length text) → (ticks < 2 ^ 64) × ((k : LastBreak) × (drop at text ≡ runLine ticks k))
+pub run-front : (text : List ℕ) (at run : ℕ) → runAt text at ≡ Run (ticks run) (length text) → (run < 2 ^ 64) × ((k : LastBreak) × (drop at text ≡ runLine run k))
 unfolding runAt runLine runWord lastBytes
-run-front text at ticks e = go (standsAt text at runWord) refl
+run-front text at run e = go (standsAt text at runWord) refl
   where
     nothing : drop (length text) text ≡ []
     nothing = drop-of-length-le text {i = length text} (le-refl _)
 
-    go : (t : Bool) → standsAt text at runWord ≡ t → (ticks < 2 ^ 64) × ((k : LastBreak) × (drop at text ≡ runLine ticks k))
+    go : (t : Bool) → standsAt text at runWord ≡ t → (run < 2 ^ 64) × ((k : LastBreak) × (drop at text ≡ runLine run k))
     go true q =
         let word = word-front text at runWord q in
-        let last = end-front text (at + 4) ticks (length text) (rw q at e) in (
+        let last = end-front text (at + 4) run (length text) (run-of (numberEnd text (at + 4)) run (length text) (rw q at e)) in (
           last .0,
-          ⊎-elim (λ h. (lacking, word ∙ ap (λ (l : List ℕ). runWord ++ l) (h .1 ∙ ap (λ (l : List ℕ). decimalOf ticks ++ l) nothing)))
-              (λ h. (ended (h .0), word ∙ ap (λ (l : List ℕ). runWord ++ l) (h .1 ∙ ap (λ (l : List ℕ). decimalOf ticks ++ (breakBytes (h .0) ++ l)) nothing ∙ ap (λ (l : List ℕ). decimalOf ticks ++ l) (append-nil (breakBytes (h .0))))))
+          ⊎-elim (λ h. (lacking, word ∙ ap (λ (l : List ℕ). runWord ++ l) (h .1 ∙ ap (λ (l : List ℕ). decimalOf run ++ l) nothing)))
+              (λ h. (ended (h .0), word ∙ ap (λ (l : List ℕ). runWord ++ l) (h .1 ∙ ap (λ (l : List ℕ). decimalOf run ++ (breakBytes (h .0) ++ l)) nothing ∙ ap (λ (l : List ℕ). decimalOf run ++ l) (append-nil (breakBytes (h .0))))))
               (last .1),
         )
-    go false q = absurd (no-number (rw q at e))
+    go false q = absurd (no-run (rw q at e))

@@ -4,6 +4,7 @@ use mathlib.Core.Bool.{Bool, cond, _&&_}
 use mathlib.Core.List.{List, [], _∷_}
 use lib.Dec.{eqb, ltb, leb}
 use lib.ListN.{length, getD}
+use Rattle.units.specs.Units.{ticks, cycles}
 use Rattle.words.specs.Words.{standsAt}
 use Rattle.decimal.specs.declared.Field.{Field}
 use Rattle.decimal.specs.declared.Field.the-variants.{Number, NoNumber}
@@ -14,6 +15,8 @@ use Rattle.lines.specs.declared.PairLine.{PairLine}
 use Rattle.lines.specs.declared.PairLine.the-variants.{Pair, WrongPair}
 use Rattle.lines.specs.declared.EndLine.{EndLine}
 use Rattle.lines.specs.declared.EndLine.the-variants.{End, WrongEnd}
+use Rattle.lines.specs.declared.RunLine.{RunLine}
+use Rattle.lines.specs.declared.RunLine.the-variants.{Run, WrongRun}
 
 -- "Lines begin with the bytes `task,` `speed,` `end,` or `run,`"
 unfoldable pub taskWord : List ℕ
@@ -73,7 +76,7 @@ pairAt text at = fromFirst text (numberComma text at)
 
 -- end lines have three: tick, task, cycles
 unfoldable pub fromCycles : ℕ → ℕ → Field → EndLine
-fromCycles tick task (Number cycles next) = End tick task cycles next
+fromCycles tick task (Number used next) = End (ticks tick) task (cycles used) next
 fromCycles tick task NoNumber = WrongEnd
 
 unfoldable pub fromTask : List ℕ → ℕ → Field → EndLine
@@ -88,5 +91,9 @@ unfoldable pub endAt : List ℕ → ℕ → EndLine
 endAt text at = fromTick text (numberComma text at)
 
 -- the run line has one: ticks
-unfoldable pub runAt : List ℕ → ℕ → Field
-runAt text at = cond (standsAt text at runWord) (numberEnd text (at + 4)) NoNumber
+unfoldable pub fromRun : Field → RunLine
+fromRun (Number run next) = Run (ticks run) next
+fromRun NoNumber = WrongRun
+
+unfoldable pub runAt : List ℕ → ℕ → RunLine
+runAt text at = cond (standsAt text at runWord) (fromRun (numberEnd text (at + 4))) WrongRun

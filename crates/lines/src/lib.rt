@@ -2,6 +2,8 @@
 ghost use mathlib.Core.Path.{_≡_};
 ghost use Rattle.lines.specs.Lines.{lineEnd, numberComma, numberEnd, pairAt, endAt, runAt};
 use decimal::Field;
+use units::Cycles;
+use units::Ticks;
 
 // Where a line ends at a place: the place of the next line.
 pub enum LineEnd {
@@ -9,7 +11,7 @@ pub enum LineEnd {
     Missing,
 }
 
-// The two numbers of a task line or a speed line, and the place of the next line.
+// The two numbers of a task line or a speed line, and the place of the next line. What they count is said by the line's word.
 pub enum PairLine {
     Pair {
         first: u64,
@@ -22,12 +24,18 @@ pub enum PairLine {
 // The tick, the task and the cycles of an end line, and the place of the next line.
 pub enum EndLine {
     End {
-        tick: u64,
+        tick: Ticks,
         task: u64,
-        cycles: u64,
+        cycles: Cycles,
         next: usize,
     },
     WrongEnd,
+}
+
+// The ticks of the run line, and the place after it.
+pub enum RunLine {
+    Run { ticks: Ticks, next: usize },
+    WrongRun,
 }
 
 // A line's end at a place: LF, CR LF, or the end of the text.
@@ -138,19 +146,25 @@ pub fn end_line(text: &[u8], at: usize) -> EndLine
         return EndLine::WrongEnd;
     };
     EndLine::End {
-        tick: tick,
+        tick: Ticks(tick),
         task: task,
-        cycles: cycles,
+        cycles: Cycles(cycles),
         next: next,
     }
 }
 
-// The run line at a place: its ticks.
-pub fn run_line(text: &[u8], at: usize) -> Field
+// The run line at a place: its word, and its one number.
+pub fn run_line(text: &[u8], at: usize) -> RunLine
     ensures { λ r. ⌜ r ≡ runAt (now (text .entry)) at ⌝ }
 {
     if !words::stands(text, at, b"run,") {
-        return Field::NoNumber;
+        return RunLine::WrongRun;
     }
-    number_end(text, at + 4)
+    let Field::Number { value: ticks, next } = number_end(text, at + 4) else {
+        return RunLine::WrongRun;
+    };
+    RunLine::Run {
+        ticks: Ticks(ticks),
+        next: next,
+    }
 }

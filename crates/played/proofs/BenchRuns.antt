@@ -62,7 +62,7 @@ module _ (text : List ℕ) (e : runFileOf text .number ≡ 0) (n : startIn (runF
   call-in many = rw (tasks-in, start-done _ _ _ _ n) (ap (callAt (endsIn file) _) (omega arith))
 
   -- a play that is the run of the calls from the fresh state on is the file's run
-  run-of : (p : Play) → RunFrom (endsIn file) (file .ticks) first p → IsTheRun file p
+  run-of : (p : Play) → RunFrom (endsIn file) (file .ticks .0) first p → IsTheRun file p
   unfolding started tableIn
   run-of p run =
       record {
@@ -75,7 +75,7 @@ module _ (text : List ℕ) (e : runFileOf text .number ≡ 0) (n : startIn (runF
   pub play-is-run : IsTheRun file (playOf text)
   play-is-run =
       rw (text-played text e n)
-      (run-of _ (run-from (endsIn file) (file .ticks) first (start-is-sound _ _ _ _ n) (start-is-shaped _ _ _ _ n) (run-room text e n)))
+      (run-of _ (run-from (endsIn file) (file .ticks .0) first (start-is-sound _ _ _ _ n) (start-is-shaped _ _ _ _ n) (run-room text e n)))
 
   -- so none of its jobs is late
   pub run-not-late : playOf text .state .tally .late ≡ 0

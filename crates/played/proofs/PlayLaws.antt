@@ -4,7 +4,7 @@ use mathlib.Core.Bool.{Bool, true, false}
 use mathlib.Core.List.{List, [], _∷_}
 use mathlib.Core.Logic.{_⊎_, inl, inr, ⊎-elim}
 use Prim.Native.Nat.{ℕ, zero, suc, _+_, _*_, _≤_, _<_}
-use native.Mathlib.Nat.{suc-mul, zero-mul}
+use native.Mathlib.Nat.{suc-mul, zero-mul, not-suc-le-zero}
 use native.Mathlib.Omega.{arith}
 use lib.ListN.{length, getD, length-append}
 use Rattle.units.specs.Units.{cycles}
@@ -24,10 +24,12 @@ use Rattle.rules.proofs.Totals.{total-set}
 use Rattle.rules.proofs.Settles.{grantsSum}
 use Rattle.rules.proofs.Soundness.{Sound, sound-facts}
 use Rattle.rules.proofs.Loads.{some-carries, place-below}
-use Rattle.rules.proofs.CallRows.{accepted, not-all-done, tick-0, tick-13, tick-accepted}
+use Rattle.rules.proofs.CallRows.{accepted, not-all-done, tick-0, tick-13}
 use Rattle.rules.proofs.Keeps.{tick-sound, tick-shaped}
 use Rattle.player.specs.Plays.{End, Tick, Play, entryOf, reportOf, tickPlayed, ended, before, playFrom}
 use Rattle.player.specs.Rows.{rowOf, rowsOf}
+use Rattle.player.proofs.TickRows.{number-is}
+use Rattle.player.proofs.Runs.{play-on, play-stops, after-is, done-after, table-after}
 use Rattle.played.specs.Promised.{TickRight, EachTick, grantedIn, countedIn, PlaysOn}
 use Rattle.played.proofs.TickShares.{played-total, tick-right}
 
@@ -68,29 +70,17 @@ module _ (ends : List End) (s : State) where
       go true k = inl (tick-0 s reportNow (s .tasks .count) e (not-all-done s room) (report-long ends (s .tasks .count) (s .done .0)) refl (some-carries s (sound-facts s e)) k)
       go false k = inr (tick-13 s reportNow (s .tasks .count) e (not-all-done s room) (report-long ends (s .tasks .count) (s .done .0)) refl (some-carries s (sound-facts s e)) k)
 
-  -- accepted, it goes in front of the rest of the run
-  pub play-more : (left : ℕ) → numberNow ≡ 0 → playFrom ends (suc left) s ≡ before (tickPlayed s reportNow) (playFrom ends left (answer .state))
-  unfolding playFrom tickOf
-  play-more left e = rw e
-
-  -- refused, it ends the run
-  pub play-ends : (left : ℕ) → numberNow ≡ 13 → playFrom ends (suc left) s ≡ ended 13 s
-  unfolding playFrom tickOf
-  play-ends left e = rw e
-
   -- accepted, it is settled and counted by rules 4 and 5
   pub answer-is : numberNow ≡ 0 → answer .state ≡ nextOf s (speedPlace s) (settled s (speedOf s) reportNow)
-  answer-is e = ap (λ (r : Ticked). r .state) (sym (tick-accepted s reportNow (s .tasks .count) e))
+  answer-is e = sym (after-is s reportNow (s .tasks .count) e)
 
   -- so t grows by 1
   pub done-next : numberNow ≡ 0 → answer .state .done .0 ≡ s .done .0 + 1
-  unfolding nextOf
-  done-next e = ap (λ (n : State). n .done .0) (answer-is e)
+  done-next e = done-after s reportNow (s .tasks .count) e
 
   -- and the table stays: its tasks and its speeds
   pub tasks-next : numberNow ≡ 0 → answer .state .tasks ≡ s .tasks
-  unfolding nextOf
-  tasks-next e = ap (λ (n : State). n .tasks) (answer-is e)
+  tasks-next e = table-after s reportNow (s .tasks .count) e
 
   pub ladder-next : numberNow ≡ 0 → answer .state .ladder ≡ s .ladder
   unfolding nextOf
@@ -161,10 +151,12 @@ module _ (ends : List End) (Q : ℕ → State → Play → Type 0)
       where
         go : (numberNow ends s ≡ 0) ⊎ (numberNow ends s ≡ 13) → (sound (answer ends s .state) ≡ true → Shaped (answer ends s .state) → answer ends s .state .done .0 + left ≤ mostTicks → Q left (answer ends s .state) (playFrom ends left (answer ends s .state))) → Q (suc left) s (playFrom ends (suc left) s)
         go (inl n) rest =
-            rw (play-more ends s left n)
+            rw (play-on ends left s (answer ends s) refl (number-is s (reportNow ends s) (s .tasks .count) ∙ n))
             (more left s (playFrom ends left (answer ends s .state)) shape n
             (rest (tick-sound s (reportNow ends s) (s .tasks .count) shape n) (tick-shaped s (reportNow ends s) (s .tasks .count) shape n) (omega (arith, done-next ends s n))))
-        go (inr n) rest = rw (play-ends ends s left n) (stop left s e shape n)
+        go (inr n) rest =
+            let told : answer ends s .number ≡ 13 = number-is s (reportNow ends s) (s .tasks .count) ∙ n in
+            rw (play-stops ends left s (answer ends s) refl (λ z. not-suc-le-zero {n = 12} (omega (arith, told, z))), told) (stop left s e shape n)
 
 -- so every such run is as promised
 pub plays-on : (ends : List End) (left : ℕ) (s : State) → sound s ≡ true → Shaped s → s .done .0 + left ≤ mostTicks → PlaysOn s left (playFrom ends left s)

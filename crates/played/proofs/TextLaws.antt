@@ -42,7 +42,7 @@ module _ (text : List ℕ) where
   not-started e n = rw (e, ne-eqb (startIn file .number) 0 n, start-refused _ _ _ _ n)
 
   -- an accepted start: its ticks from the fresh state on
-  pub text-played : file .number ≡ 0 → startIn file .number ≡ 0 → playOf text ≡ playFrom (endsIn file) (file .ticks) (startIn file .state)
+  pub text-played : file .number ≡ 0 → startIn file .number ≡ 0 → playOf text ≡ playFrom (endsIn file) (file .ticks .0) (startIn file .state)
   unfolding playOf playFile
   text-played e n = rw (e, n)
 
@@ -50,7 +50,7 @@ module _ (text : List ℕ) where
   pub of-text : (P : Play → Type 0)
       → ((file .number ≡ 0 → ⊥) → P (ended 14 zeroState))
       → (file .number ≡ 0 → (startIn file .number ≡ 0 → ⊥) → P (ended (startIn file .number) zeroState))
-      → (file .number ≡ 0 → startIn file .number ≡ 0 → P (playFrom (endsIn file) (file .ticks) (startIn file .state)))
+      → (file .number ≡ 0 → startIn file .number ≡ 0 → P (playFrom (endsIn file) (file .ticks .0) (startIn file .state)))
       → P (playOf text)
   of-text P none refused accepted = go (ℕ-discrete (file .number) 0) (ℕ-discrete (startIn file .number) 0)
     where
@@ -77,7 +77,7 @@ module _ (text : List ℕ) where
       }
 
   -- and so is one from the fresh state on
-  run-right : (p : Play) → file .ticks ≤ 10_000 → startIn file .number ≡ 0 → PlaysOn (startIn file .state) (file .ticks) p → PlayRight text p
+  run-right : (p : Play) → file .ticks .0 ≤ 10_000 → startIn file .number ≡ 0 → PlaysOn (startIn file .state) (file .ticks .0) p → PlayRight text p
   run-right p short e on =
       let f : Sound (p .state) = sound-facts (p .state) (on .is-sound) in
       let tasks : p .state .tasks .count ≡ startIn file .state .tasks .count = ap (λ (ts : Tasks). ts .count) (on .same-tasks) in
@@ -101,17 +101,17 @@ module _ (text : List ℕ) where
   few : file .number ≡ 0 → file .tasks .count ≤ 16
   few e = good-file text e .tasks .few
 
-  short : file .number ≡ 0 → file .ticks ≤ 10_000
+  short : file .number ≡ 0 → file .ticks .0 ≤ 10_000
   short e = good-file text e .ticks
 
   -- so its run ends before 1,000,000,000 ticks are done
-  pub run-room : file .number ≡ 0 → startIn file .number ≡ 0 → startIn file .state .done .0 + file .ticks ≤ mostTicks
+  pub run-room : file .number ≡ 0 → startIn file .number ≡ 0 → startIn file .state .done .0 + file .ticks .0 ≤ mostTicks
   run-room e n = omega (arith, start-done _ _ _ _ n, short e)
 
   -- from the fresh state on it is a run from a sound state
-  plays-file : file .number ≡ 0 → startIn file .number ≡ 0 → PlaysOn (startIn file .state) (file .ticks) (playFrom (endsIn file) (file .ticks) (startIn file .state))
+  plays-file : file .number ≡ 0 → startIn file .number ≡ 0 → PlaysOn (startIn file .state) (file .ticks .0) (playFrom (endsIn file) (file .ticks .0) (startIn file .state))
   plays-file e n =
-      plays-on (endsIn file) (file .ticks) (startIn file .state) (start-is-sound _ _ _ _ n) (start-is-shaped _ _ _ _ n) (run-room e n)
+      plays-on (endsIn file) (file .ticks .0) (startIn file .state) (start-is-sound _ _ _ _ n) (start-is-shaped _ _ _ _ n) (run-room e n)
 
   -- so the run of any text is as promised,
   pub text-right : PlayRight text (playOf text)
@@ -133,11 +133,11 @@ module _ (text : List ℕ) where
   unfolding enough
   text-enough = go (eqb (file .number) 0) refl (eqb (startIn file .number) 0)
     where
-      go : (b : Bool) → eqb (file .number) 0 ≡ b → (c : Bool) → (not b || not c || leb (file .ticks * (file .tasks .count + 2)) mostPlaces) ≡ true
+      go : (b : Bool) → eqb (file .number) 0 ≡ b → (c : Bool) → (not b || not c || leb (file .ticks .0 * (file .tasks .count + 2)) mostPlaces) ≡ true
       go false e c = refl
       go true e false = refl
       go true e true =
           let n : file .number ≡ 0 = eqb-true (file .number) 0 e in
           let wide : file .tasks .count + 2 ≤ 18 = omega (arith, few n) in
-          let places : file .ticks * (file .tasks .count + 2) ≤ 10_000 * 18 = mul-le-mul (short n) wide in
-          le-leb (file .ticks * (file .tasks .count + 2)) mostPlaces (omega (arith, places))
+          let places : file .ticks .0 * (file .tasks .count + 2) ≤ 10_000 * 18 = mul-le-mul (short n) wide in
+          le-leb (file .ticks .0 * (file .tasks .count + 2)) mostPlaces (omega (arith, places))

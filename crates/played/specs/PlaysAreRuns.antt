@@ -40,8 +40,8 @@ pub record IsTheRun (f : RunFile) (p : Play) : Type 0 where
   pub state : p .state ≡ after (started (tableIn f) .state) (callsIn f (length (p .ticks)))
   pub ticks : p .ticks ≡ map shown (steps (started (tableIn f) .state) (callsIn f (length (p .ticks))))
   -- not refused, it shows all of the run line's ticks; else it shows fewer, and the call of the next one is refused with 13
-  pub ends : ((p .number ≡ 0) × (length (p .ticks) ≡ f .ticks))
-      ⊎ ((p .number ≡ 13) × ((length (p .ticks) < f .ticks) × (ticked (p .state) (callAt (endsIn f) (f .tasks .count) (length (p .ticks))) .number ≡ 13)))
+  pub ends : ((p .number ≡ 0) × (length (p .ticks) ≡ f .ticks .0))
+      ⊎ ((p .number ≡ 13) × ((length (p .ticks) < f .ticks .0) × (ticked (p .state) (callAt (endsIn f) (f .tasks .count) (length (p .ticks))) .number ≡ 13)))
 
 -- so is that of every run file whose table start takes
 unfoldable pub EveryPlayIsARun : Type 0

@@ -11,7 +11,7 @@ use Rattle.rules.specs.Words.{total}
 use Rattle.rules.specs.Limits.{mostTasks, mostSpeed, mostTicks}
 use Rattle.rules.specs.State.{Shaped}
 use Rattle.rules.specs.Numbers.{sound}
-use Rattle.runfile.specs.RunFile.{runFileOf}
+use Rattle.runfile.specs.RunFile.{mostRunTicks, runFileOf}
 use Rattle.player.specs.Plays.{End, Tick, Play, playFrom, playOf}
 use Rattle.player.specs.Rows.{rowsOf, enough}
 
@@ -59,7 +59,7 @@ pub record PlayRight (text : List ℕ) (p : Play) : Type 0 where
   -- at most 10,000 ticks of at most 16 tasks, each of them right, and a row of n + 2 numbers for each
   pub done : p .state .done .0 ≡ length (p .ticks)
   pub tasks-most : p .state .tasks .count ≤ mostTasks
-  pub ticks-most : length (p .ticks) ≤ 10_000
+  pub ticks-most : length (p .ticks) ≤ mostRunTicks
   pub ticks-right : EachTick (TickRight (p .state .tasks .count)) (p .ticks)
   pub rows-long : length (rowsOf (p .ticks)) ≡ length (p .ticks) * (p .state .tasks .count + 2)
   -- the cycles granted and idle in all are those of the ticks shown, at most 10,000 x 1,000,000 together
@@ -68,7 +68,7 @@ pub record PlayRight (text : List ℕ) (p : Play) : Type 0 where
   pub cycles-most : countedIn (p .state) + p .state .tally .idle .0 ≤ 10_000_000_000
   -- not refused, its last state is sound, and it has as many ticks as the run line names
   pub is-sound : p .number ≡ 0 → sound (p .state) ≡ true
-  pub all-played : p .number ≡ 0 → length (p .ticks) ≡ runFileOf text .ticks
+  pub all-played : p .number ≡ 0 → length (p .ticks) ≡ runFileOf text .ticks .0
 
 unfoldable pub EveryPlay : Type 0
 EveryPlay = (text : List ℕ) → PlayRight text (playOf text)

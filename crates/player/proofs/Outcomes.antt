@@ -71,17 +71,17 @@ module _ (text : List ℕ) (f : RunFile) (read : f ≡ runFileOf text) (rows : L
           (rw (← read, e, ← told-so, ne-eqb (r .number) 0 z, none), rw (← read, e, ← told-so, ne-eqb (r .number) 0 z))
 
       -- accepted, without room for its rows
-      pub no-room : r .number ≡ 0 → length rows < f .ticks * (f .tasks .count + 2) → (unplayedAs NoRoom ≡ playedOf text (length rows)) × (rows ≡ rowsIn text rows)
+      pub no-room : r .number ≡ 0 → length rows < f .ticks .0 * (f .tasks .count + 2) → (unplayedAs NoRoom ≡ playedOf text (length rows)) × (rows ≡ rowsIn text rows)
       unfolding unplayedAs playedOf rowsIn enough
       no-room z h = (rw (← read, e, ← told-so, z, lt-leb _ _ h), rw (← read, e, ← told-so, z, lt-leb _ _ h))
 
       -- and with it
-      module _ (z : r .number ≡ 0) (h : f .ticks * (f .tasks .count + 2) ≤ length rows) where
-        pub all-played : (p : Played) (rows' : List ℕ) → p ≡ playedAs (playFrom (endsOf (f .ends)) (f .ticks) (r .state)) → rows' ≡ sets rows 0 (rowsOf (playFrom (endsOf (f .ends)) (f .ticks) (r .state) .ticks)) → (p ≡ playedOf text (length rows)) × (rows' ≡ rowsIn text rows)
+      module _ (z : r .number ≡ 0) (h : f .ticks .0 * (f .tasks .count + 2) ≤ length rows) where
+        pub all-played : (p : Played) (rows' : List ℕ) → p ≡ playedAs (playFrom (endsOf (f .ends)) (f .ticks .0) (r .state)) → rows' ≡ sets rows 0 (rowsOf (playFrom (endsOf (f .ends)) (f .ticks .0) (r .state) .ticks)) → (p ≡ playedOf text (length rows)) × (rows' ≡ rowsIn text rows)
         unfolding playedAs playedOf rowsIn enough playOf playFile endsIn
         all-played p rows' a b = (a ∙ rw (← read, e, ← told-so, z, le-leb _ _ h), b ∙ rw (← read, e, ← told-so, z, le-leb _ _ h))
 
-        pub runnable : Runnable (r .state) (f .ends) (f .ticks) (length rows)
+        pub runnable : Runnable (r .state) (f .ends) (f .ticks .0) (length rows)
         runnable =
             let known : r .state .tasks .count ≡ f .tasks .count = start-count _ _ _ _ r told z ∙ length-take-le (f .tasks .count - 0) (f .tasks .firsts) (omega (arith, good .tasks .few, good .tasks .firsts)) ∙ omega arith in
             record {
@@ -95,8 +95,8 @@ module _ (text : List ℕ) (f : RunFile) (read : f ≡ runFileOf text) (rows : L
     pub width-fits : Fits w64 (f .tasks .count + 2)
     width-fits = record { fits = omega (arith, good .tasks .few) }
 
-    pub needed-fits : Fits w64 (f .ticks * (f .tasks .count + 2))
+    pub needed-fits : Fits w64 (f .ticks .0 * (f .tasks .count + 2))
     needed-fits =
         let wide : f .tasks .count + 2 ≤ 18 = omega (arith, good .tasks .few) in
-        let most : f .ticks * (f .tasks .count + 2) ≤ 10000 * 18 = mul-le-mul (good .ticks) wide in
+        let most : f .ticks .0 * (f .tasks .count + 2) ≤ 10000 * 18 = mul-le-mul (good .ticks) wide in
         record { fits = omega (arith, most) }

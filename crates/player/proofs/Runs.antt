@@ -18,6 +18,7 @@ use Rattle.rules.specs.Words.{upTo}
 use Rattle.rules.specs.Choice.{speedPlace, speedOf}
 use Rattle.rules.specs.Settlement.{settled}
 use Rattle.rules.specs.Counting.{nextOf}
+use Rattle.rules.specs.Numbers.{tickNumber}
 use Rattle.rules.specs.Calls.{tickOf, grantsOf}
 use Rattle.rules.proofs.Lists.{length-upTo}
 use Rattle.rules.proofs.CallRows.{tick-accepted}
@@ -26,6 +27,7 @@ use Rattle.player.specs.declared.Outcome.the-variants.{Ended}
 use Rattle.player.specs.Plays.{End, Play, reportOf, tickPlayed, ended, before, playFrom}
 use Rattle.player.specs.Rows.{rowOf, rowsOf}
 use Rattle.player.specs.Parts.{pastTick, playedAs}
+use Rattle.player.proofs.TickRows.{number-is}
 use Rattle.player.proofs.Cursor.{Stands, stands-first, stands-next}
 use Rattle.player.proofs.Lines.{Lines}
 
@@ -37,25 +39,24 @@ lent-part d ys a e h l y =
 
 -- one tick more of a run: accepted, with its row in front of the others, or refused
 module _ (ends : List End) (left : ℕ) (s : State) (r : Ticked) (told : r ≡ tickOf s (reportOf ends (s .tasks .count) (s .done .0)) (s .tasks .count)) where
-  play-on : r .number ≡ 0 → playFrom ends (suc left) s ≡ before (tickPlayed s (reportOf ends (s .tasks .count) (s .done .0))) (playFrom ends left (r .state))
+  pub play-on : r .number ≡ 0 → playFrom ends (suc left) s ≡ before (tickPlayed s (reportOf ends (s .tasks .count) (s .done .0))) (playFrom ends left (r .state))
   unfolding playFrom
   play-on e = rw (← told, e)
 
-  play-stops : (r .number ≡ 0 → ⊥) → playFrom ends (suc left) s ≡ ended (r .number) s
+  pub play-stops : (r .number ≡ 0 → ⊥) → playFrom ends (suc left) s ≡ ended (r .number) s
   unfolding playFrom
   play-stops z = rw (← told, ne-eqb (r .number) 0 z)
 
--- an accepted tick counts one, and keeps the table
-module _ (s : State) (report : List ℕ) (places : ℕ) (e : tickOf s report places .number ≡ 0) where
-  after-is : nextOf s (speedPlace s) (settled s (speedOf s) report) ≡ tickOf s report places .state
-  unfolding tickOf
+-- an accepted tick is settled and counted by rules 4 and 5: t grows by 1, and the table stays
+module _ (s : State) (report : List ℕ) (places : ℕ) (e : tickNumber s report places ≡ 0) where
+  pub after-is : nextOf s (speedPlace s) (settled s (speedOf s) report) ≡ tickOf s report places .state
   after-is = ap (λ (x : Ticked). x .state) (tick-accepted s report places e)
 
-  done-after : tickOf s report places .state .done .0 ≡ s .done .0 + 1
+  pub done-after : tickOf s report places .state .done .0 ≡ s .done .0 + 1
   unfolding nextOf
   done-after = sym (ap (λ (x : State). x .done .0) after-is)
 
-  table-after : tickOf s report places .state .tasks ≡ s .tasks
+  pub table-after : tickOf s report places .state .tasks ≡ s .tasks
   unfolding nextOf
   table-after = sym (ap (λ (x : State). x .tasks) after-is)
 
@@ -160,7 +161,7 @@ module _ (ends : List End) (when : List ℕ) (run : ℕ) (first : State) (rows�
       pub turn-accepted : run * (first .tasks .count + 2) ≤ length rows₀ → (who cycles : List ℕ) → Lines ends (first .tasks .count) when who cycles → (next' : ℕ) → next' ≡ pastTick when t next → Going ends when run first rows₀ (r .state) (putMid at (at + first .tasks .count + 2 - at) rows row) (t + 1) next' (at + first .tasks .count + 2)
       unfolding before playedAs rowsOf
       turn-accepted room who cycles b next' past =
-          let number : tickOf s entries (length entries) .number ≡ 0 = sym (ap (λ (x : Ticked). x .number) told) ∙ e in
+          let number : tickNumber s entries (length entries) ≡ 0 = sym (number-is s entries (length entries)) ∙ sym (ap (λ (x : Ticked). x .number) told) ∙ e in
           let one : (t + 1) * (first .tasks .count + 2) ≡ t * (first .tasks .count + 2) + 1 * (first .tasks .count + 2) = add-mul t 1 (first .tasks .count + 2) in
           let long : at + first .tasks .count + 2 ≡ at + length (rowOf (tickPlayed s entries)) = omega (arith, row-places s entries, ap (λ (ts : Tasks). ts .count) (g .table)) in
           record {

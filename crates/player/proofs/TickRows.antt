@@ -10,6 +10,8 @@ use mir.Syntax.{w64}
 use mir.Val.{Fits}
 use lib.Dec.{eqb}
 use lib.ListN.{length, take, drop, set, replicate, length-replicate}
+use Rattle.units.specs.declared.Speed.{Speed}
+use Rattle.units.specs.Units.{cycles, perTick}
 use Rattle.rules.specs.declared.State.{State}
 use Rattle.rules.specs.declared.Ticked.{Ticked}
 use Rattle.rules.specs.Words.{total}
@@ -26,7 +28,7 @@ use Rattle.player.proofs.Shared.{sharesOf, speed-shared, speed-most, sp
 use Rattle.player.proofs.RowParts.{middle-long, middle-is, filled-long, row-full}
 
 -- the number of a tick is the first thing that it answers
-number-is : (s : State) (report : List ℕ) (places : ℕ) → tickOf s report places .number ≡ tickNumber s report places
+pub number-is : (s : State) (report : List ℕ) (places : ℕ) → tickOf s report places .number ≡ tickNumber s report places
 unfolding tickOf
 number-is s report places = refl
 
@@ -103,9 +105,9 @@ module _ (s : State) (report row : List ℕ) (l : length row ≡ length report +
       speed-fits sum m = record { fits = omega (arith, m, middle-sum, speed-most s report (length report) shape is-0) }
 
       -- and the row is that of the tick as it is played
-      pub row-is : (sum : ℕ) → sum ≡ total (λ g. g) (take (length report + 1 - 1) (drop 1 (set (putMid 1 (length report + 1 - 1) row ys) (length report + 1) idle))) → set (set (putMid 1 (length report + 1 - 1) row ys) (length report + 1) idle) 0 (sum + idle) ≡ cond (eqb (r .number) 0) (rowOf (tickPlayed s report)) row
-      row-is sum m =
-          let speed : sum + idle ≡ speedOf s = ap (λ x. x + idle) m ∙ middle-sum in
+      pub row-is : (sum : ℕ) → sum ≡ total (λ g. g) (take (length report + 1 - 1) (drop 1 (set (putMid 1 (length report + 1 - 1) row ys) (length report + 1) idle))) → (v : Speed) → v ≡ perTick (cycles (sum + idle)) → set (set (putMid 1 (length report + 1 - 1) row ys) (length report + 1) idle) 0 (v .0) ≡ cond (eqb (r .number) 0) (rowOf (tickPlayed s report)) row
+      row-is sum m v q =
+          let speed : v .0 ≡ speedOf s = ap (λ (x : Speed). x .0) q ∙ ap (λ x. x + idle) m ∙ middle-sum in
           rw e
-          (row-full row ys (length report) idle l back-long (sum + idle)
+          (row-full row ys (length report) idle l back-long (v .0)
           ∙ rw (speed, back-is, left-is) (sym (played-row s report shape is-0)))

@@ -6,6 +6,7 @@ use mathlib.Core.List.{List, [], _∷_}
 use lib.Dec.{eqb}
 use lib.ListN.{length, getD, set, drop}
 use Rattle.rules.specs.declared.State.{State}
+use Rattle.rules.specs.Limits.{mostTasks}
 use Rattle.rules.specs.Calls.{zeroState}
 use Rattle.runfile.specs.declared.Ends.{Ends}
 use Rattle.runfile.specs.Good.{GoodEnds}
@@ -47,6 +48,6 @@ Named when who cycles n =
 -- what a run asks for before its first tick: a state at tick 0, end lines that are good for its tasks, and a row for each tick
 pub record Runnable (s : State) (e : Ends) (run places : ℕ) : Type 0 where
   pub fresh : s .done .0 ≡ 0
-  pub few : s .tasks .count ≤ 16
+  pub few : s .tasks .count ≤ mostTasks
   pub ends : GoodEnds (s .tasks .count) e
   pub room : run * (s .tasks .count + 2) ≤ places

@@ -86,7 +86,7 @@ unfoldable pub playFile : RunFile → Play
 playFile f =
     let r = startIn f in
     cond (eqb (r .number) 0)
-    (playFrom (endsIn f) (f .ticks) (r .state))
+    (playFrom (endsIn f) (f .ticks .0) (r .state))
     (ended (r .number) (r .state))
 
 -- any text: a text that is no run file ends with 14 before a tick

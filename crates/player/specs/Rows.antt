@@ -23,7 +23,7 @@ rowsOf (x ∷ xs) = rowOf x ++ rowsOf xs
 -- whether so many places are enough for a row of each tick that the run line names; a run that ends before its first tick needs none
 unfoldable pub enough : RunFile → ℕ → Bool
 enough f places =
-    not (eqb (f .number) 0) || not (eqb (startIn f .number) 0) || leb (f .ticks * (f .tasks .count + 2)) places
+    not (eqb (f .number) 0) || not (eqb (startIn f .number) 0) || leb (f .ticks .0 * (f .tasks .count + 2)) places
 
 -- what play answers for a text and a list of so many places: how the run ended; or that there is no room, and nothing was played
 unfoldable pub playedOf : List ℕ → ℕ → Played

@@ -47,8 +47,9 @@ pub fn play(text: &[u8], rows: &mut [u64]) -> Played
     if started.number != 0 {
         return ticks::unplayed(Outcome::Ended(started.number));
     }
-    if rows.len() < file.ticks as usize * (n + 2) {
+    let run = file.ticks;
+    if rows.len() < run.0 as usize * (n + 2) {
         return ticks::unplayed(Outcome::NoRoom);
     }
-    ticks::play_run(started.state, file.ends, file.ticks, rows)
+    ticks::play_run(started.state, file.ends, run, rows)
 }

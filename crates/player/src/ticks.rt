@@ -16,12 +16,14 @@ use rules::State;
 use rules::Tally;
 use rules::Ticked;
 use runfile::Ends;
+use units::Cycles;
+use units::Ticks;
 
 // Every tick of the run from a state on, each with the report of its end lines; a refused tick ends the run.
-pub(crate) fn play_run(state: State, ends: Ends, run: u64, rows: &mut [u64]) -> Played
-    requires { ⌜ Runnable state ends run (length (now rows)) ⌝ }
-    ensures { λ r. ⌜ r ≡ playedAs (playFrom (endsOf ends) run state) ⌝ }
-    ensures { λ _. ⌜ now (rows .exit) ≡ sets (now (rows .entry)) 0 (rowsOf (playFrom (endsOf ends) run state .ticks)) ⌝ }
+pub(crate) fn play_run(state: State, ends: Ends, run: Ticks, rows: &mut [u64]) -> Played
+    requires { ⌜ Runnable state ends (run .0) (length (now rows)) ⌝ }
+    ensures { λ r. ⌜ r ≡ playedAs (playFrom (endsOf ends) (run .0) state) ⌝ }
+    ensures { λ _. ⌜ now (rows .exit) ≡ sets (now (rows .entry)) 0 (rowsOf (playFrom (endsOf ends) (run .0) state .ticks)) ⌝ }
 {
     let when = ends.ticks;
     let who = ends.tasks;
@@ -29,18 +31,19 @@ pub(crate) fn play_run(state: State, ends: Ends, run: u64, rows: &mut [u64]) -> 
     let e = ends.count;
     let tasks = state.tasks;
     let n = tasks.count;
+    let all = run.0;
     let mut current = state;
     let mut t: u64 = 0;
     let mut next = 0;
     let mut at = 0;
-    while t < run {
+    while t < all {
         let mut report = [0u64; 16];
         next = enter(
             &when[0..e],
             &who[0..e],
             &cycles[0..e],
             next,
-            t,
+            Ticks(t),
             &mut report[0..n],
         );
         let after = at + n + 2;
@@ -67,16 +70,17 @@ pub(crate) fn enter(
     who: &[u64],
     cycles: &[u64],
     from: usize,
-    t: u64,
+    t: Ticks,
     report: &mut [u64],
 ) -> usize
     requires { ⌜ Named (now when) (now who) (now cycles) (length (now report)) ⌝ }
-    ensures { λ r. ⌜ r ≡ pastTick (now (when .entry)) t from ⌝ }
-    ensures { λ _. ⌜ now (report .exit) ≡ entered (now (when .entry)) (now (who .entry)) (now (cycles .entry)) t from (now (report .entry)) ⌝ }
+    ensures { λ r. ⌜ r ≡ pastTick (now (when .entry)) (t .0) from ⌝ }
+    ensures { λ _. ⌜ now (report .exit) ≡ entered (now (when .entry)) (now (who .entry)) (now (cycles .entry)) (t .0) from (now (report .entry)) ⌝ }
 {
+    let tick = t.0;
     let mut k = from;
     while k < when.len() {
-        if when[k] != t {
+        if when[k] != tick {
             break;
         }
         let task = who[k] as usize;
@@ -86,7 +90,7 @@ pub(crate) fn enter(
     k
 }
 
-// One tick into its row. The speed is what was granted and what remains: now would tell the same.
+// One tick into its row. Its speed is that at which one tick has the cycles that were granted and that remain: now would tell the same.
 pub(crate) fn play_tick(state: State, report: &[u64], row: &mut [u64]) -> Ticked
     requires { ⌜ length (now row) ≡ length (now report) + 2 ⌝ }
     ensures { λ r. ⌜ r ≡ tickOf state (now (report .entry)) (length (now (report .entry))) ⌝ }
@@ -99,33 +103,35 @@ pub(crate) fn play_tick(state: State, report: &[u64], row: &mut [u64]) -> Ticked
     }
     let after = ticked.state;
     let idle = idled(state.tally, after.tally);
-    row[end] = idle;
-    row[0] = sum(&row[1..end]) + idle;
+    row[end] = idle.0;
+    let granted = sum(&row[1..end]);
+    let speed = units::per_tick(Cycles(granted.0 + idle.0));
+    row[0] = speed.0;
     ticked
 }
 
 // The idle cycles of a tick, from the counts before and after it.
-pub(crate) fn idled(before: Tally, after: Tally) -> u64
+pub(crate) fn idled(before: Tally, after: Tally) -> Cycles
     requires { ⌜ before .idle .0 ≤ after .idle .0 ⌝ }
-    ensures { λ r. ⌜ before .idle .0 + r ≡ after .idle .0 ⌝ }
+    ensures { λ r. ⌜ before .idle .0 + r .0 ≡ after .idle .0 ⌝ }
 {
     let old = before.idle;
     let new = after.idle;
-    new.0 - old.0
+    Cycles(new.0 - old.0)
 }
 
-// The sum of a list.
-pub(crate) fn sum(values: &[u64]) -> u64
-    requires { ⌜ total (λ g. g) (now values) < 2 ^ 64 ⌝ }
-    ensures { λ r. ⌜ r ≡ total (λ g. g) (now (values .entry)) ⌝ }
+// The cycles of a list of grants together.
+pub(crate) fn sum(grants: &[u64]) -> Cycles
+    requires { ⌜ total (λ g. g) (now grants) < 2 ^ 64 ⌝ }
+    ensures { λ r. ⌜ r .0 ≡ total (λ g. g) (now (grants .entry)) ⌝ }
 {
     let mut sofar: u64 = 0;
     let mut i = 0;
-    while i < values.len() {
-        sofar += values[i];
+    while i < grants.len() {
+        sofar += grants[i];
         i += 1;
     }
-    sofar
+    Cycles(sofar)
 }
 
 // Nothing played: why, and the all-zero state, which start gives for no table.

@@ -8,6 +8,7 @@ use lib.ListN.{length, take, drop}
 use Rattle.rules.specs.declared.State.{State}
 use Rattle.rules.specs.Numbers.{sound}
 use Rattle.decimal.specs.Decimal.{decimalOf}
+use Rattle.runfile.specs.RunFile.{mostRunTicks}
 use Rattle.printout.specs.declared.lasts.Last.{Last}
 use Rattle.printout.specs.Print.{lineOf, totalWord, refusedWord, totalsOf}
 use Rattle.printout.specs.Largest.{mostPrinted}
@@ -39,11 +40,11 @@ Summed number s = number ≡ 0 → sound s ≡ true
 unfoldable pub linesOf : ℕ → ℕ → Last → List ℕ → List ℕ
 linesOf width ticks last rows = rowLines width ticks 0 rows ++ lastText last
 
--- rows that can be written: at most 10,000 of at most 18 numbers, all of them there, and a text that is no longer than any run's
+-- rows that can be written: at most so many of at most 18 numbers, all of them there, and a text that is no longer than any run's
 pub record Writable (width ticks : ℕ) (last : Last) (rows : List ℕ) : Type 0 where
   pub there : ticks * width ≤ length rows
   pub narrow : width ≤ 18
-  pub few : ticks ≤ 10_000
+  pub few : ticks ≤ mostRunTicks
   pub numbers : last .count ≤ 5
   pub short : length (linesOf width ticks last rows) ≤ mostPrinted
 

@@ -8,6 +8,7 @@ ghost use Rattle.rules.specs.Words.{total};
 ghost use Rattle.printout.specs.Parts.{lastText, wordOf, Summed, lastOf};
 use rules::State;
 use rules::Tally;
+use units::Cycles;
 
 // Whether the run was refused, and the numbers of its last line: so many, in the first places.
 pub(crate) struct Last {
@@ -30,18 +31,19 @@ pub(crate) fn last_of(number: u64, state: State) -> Last
     }
     let used = governor::energy(state);
     let tally = state.tally;
+    let sum = granted(tally);
     let idle = tally.idle;
     Last {
         refused: false,
         count: 5,
-        values: [granted(tally), idle.0, used.energy, tally.late, tally.cut],
+        values: [sum.0, idle.0, used.energy, tally.late, tally.cut],
     }
 }
 
 // The cycles granted at all speeds.
-pub(crate) fn granted(tally: Tally) -> u64
+pub(crate) fn granted(tally: Tally) -> Cycles
     requires { ⌜ total (λ (c : Cycles). c .0) (tally .counts) < 2 ^ 64 ⌝ }
-    ensures { λ r. ⌜ r ≡ total (λ (c : Cycles). c .0) (tally .counts) ⌝ }
+    ensures { λ r. ⌜ r .0 ≡ total (λ (c : Cycles). c .0) (tally .counts) ⌝ }
 {
     let counts = tally.counts;
     let mut sum: u64 = 0;
@@ -51,7 +53,7 @@ pub(crate) fn granted(tally: Tally) -> u64
         sum += count.0;
         i += 1;
     }
-    sum
+    Cycles(sum)
 }
 
 // How many bytes the last line takes.

@@ -3,8 +3,10 @@ ghost use mathlib.Core.Path.{_≡_};
 ghost use Prim.Native.Nat.{_+_, _*_, _≤_};
 ghost use lib.ListN.{length};
 ghost use lib.Seq.{sets};
+ghost use Rattle.runfile.specs.RunFile.{mostRunTicks};
 ghost use Rattle.printout.specs.Print.{fieldOf, fieldsOf};
 ghost use Rattle.printout.specs.Parts.{rowLines};
+use units::Ticks;
 
 // How many bytes the fields take, each with its comma.
 pub(crate) fn fields_length(values: &[u64]) -> usize
@@ -50,16 +52,17 @@ pub(crate) fn put_fields(out: &mut [u8], at: usize, values: &[u64]) -> usize
 }
 
 // How many bytes the lines of a run's ticks take.
-pub(crate) fn rows_length(rows: &[u64], width: usize, ticks: usize) -> usize
-    requires { ⌜ (ticks * width ≤ length (now rows)) × (width ≤ 18) × (ticks ≤ 10000) ⌝ }
-    ensures { λ r. ⌜ r ≡ length (rowLines width ticks 0 (now (rows .entry))) ⌝ }
+pub(crate) fn rows_length(rows: &[u64], width: usize, ticks: Ticks) -> usize
+    requires { ⌜ (ticks .0 * width ≤ length (now rows)) × (width ≤ 18) × (ticks .0 ≤ mostRunTicks) ⌝ }
+    ensures { λ r. ⌜ r ≡ length (rowLines width (ticks .0) 0 (now (rows .entry))) ⌝ }
 {
     let mut bytes = 0;
     let mut at = 0;
-    let mut t = 0;
-    while t < ticks {
+    let all = ticks.0;
+    let mut t: u64 = 0;
+    while t < all {
         let end = at + width;
-        bytes += decimal::width(t as u64) + fields_length(&rows[at..end]) + 2;
+        bytes += decimal::width(t) + fields_length(&rows[at..end]) + 2;
         at = end;
         t += 1;
     }
@@ -67,17 +70,18 @@ pub(crate) fn rows_length(rows: &[u64], width: usize, ticks: usize) -> usize
 }
 
 // Puts the lines of a run's ticks into a buffer from its first place on, and tells the place after them.
-pub(crate) fn put_rows(out: &mut [u8], rows: &[u64], width: usize, ticks: usize) -> usize
-    requires { ⌜ (ticks * width ≤ length (now rows)) × (width ≤ 18) × (ticks ≤ 10000) × (length (rowLines width ticks 0 (now rows)) ≤ length (now out)) ⌝ }
-    ensures { λ r. ⌜ r ≡ length (rowLines width ticks 0 (now (rows .entry))) ⌝ }
-    ensures { λ _. ⌜ now (out .exit) ≡ sets (now (out .entry)) 0 (rowLines width ticks 0 (now (rows .entry))) ⌝ }
+pub(crate) fn put_rows(out: &mut [u8], rows: &[u64], width: usize, ticks: Ticks) -> usize
+    requires { ⌜ (ticks .0 * width ≤ length (now rows)) × (width ≤ 18) × (ticks .0 ≤ mostRunTicks) × (length (rowLines width (ticks .0) 0 (now rows)) ≤ length (now out)) ⌝ }
+    ensures { λ r. ⌜ r ≡ length (rowLines width (ticks .0) 0 (now (rows .entry))) ⌝ }
+    ensures { λ _. ⌜ now (out .exit) ≡ sets (now (out .entry)) 0 (rowLines width (ticks .0) 0 (now (rows .entry))) ⌝ }
 {
     let mut place = 0;
     let mut at = 0;
-    let mut t = 0;
-    while t < ticks {
+    let all = ticks.0;
+    let mut t: u64 = 0;
+    while t < all {
         let end = at + width;
-        place = decimal::put(out, place, t as u64);
+        place = decimal::put(out, place, t);
         place = put_fields(out, place, &rows[at..end]);
         out[place] = 13;
         out[place + 1] = 10;

@@ -8,11 +8,12 @@ ghost use Rattle.printout.specs.Parts.{linesOf, Writable, rendered, Rend
 use crate::Printed;
 use crate::lasts::Last;
 use rules::State;
+use units::Ticks;
 
 // Whether so many places have room for a run's lines. No run is longer than 1,500,200 bytes: only fewer places need a count.
-pub(crate) fn room(places: usize, rows: &[u64], width: usize, ticks: usize, last: Last) -> bool
-    requires { ⌜ Writable width ticks last (now rows) ⌝ }
-    ensures { λ r. ⌜ r ≡ leb (length (linesOf width ticks last (now (rows .entry)))) places ⌝ }
+pub(crate) fn room(places: usize, rows: &[u64], width: usize, ticks: Ticks, last: Last) -> bool
+    requires { ⌜ Writable width (ticks .0) last (now rows) ⌝ }
+    ensures { λ r. ⌜ r ≡ leb (length (linesOf width (ticks .0) last (now (rows .entry)))) places ⌝ }
 {
     if places >= 1500200 {
         return true;
@@ -30,10 +31,9 @@ pub(crate) fn render(number: u64, state: State, rows: &[u64], out: &mut [u8]) ->
     let tasks = state.tasks;
     let done = state.done;
     let width = tasks.count + 2;
-    let ticks = done.0 as usize;
     let last = crate::lasts::last_of(number, state);
-    if room(out.len(), rows, width, ticks, last) {
-        let at = crate::rows::put_rows(out, rows, width, ticks);
+    if room(out.len(), rows, width, done, last) {
+        let at = crate::rows::put_rows(out, rows, width, done);
         return Printed::Bytes(crate::lasts::put_last(out, at, last));
     }
     Printed::NoRoom

@@ -4,6 +4,8 @@ use mathlib.Core.Bool.{Bool, true, false}
 use mathlib.Core.List.{List}
 use Prim.Native.Nat.{ℕ, zero, suc, _+_, _-_, _≤_, _<_}
 use native.Mathlib.Omega.{arith}
+use Rattle.units.specs.declared.Ticks.{Ticks}
+use Rattle.units.specs.declared.Cycles.{Cycles}
 use Rattle.words.specs.Words.{standsAt}
 use Rattle.lines.specs.declared.EndLine.{EndLine}
 use Rattle.lines.specs.declared.EndLine.the-variants.{End, WrongEnd}
@@ -34,21 +36,21 @@ module _ (text : List ℕ) (known at earlier former : ℕ) (sofar : Ends) where
     end-wrong zero h = rw e
     end-wrong (suc left) h = rw (e, ← d, h)
 
-    module _ {tick task cycles next : ℕ} (q : line ≡ End tick task cycles next) where
+    module _ {tick : Ticks} {task : ℕ} {cycles : Cycles} {next : ℕ} (q : line ≡ End tick task cycles next) where
       -- a line that does not rise, or names no task or no cycle, is wrong
-      pub end-not-good : (left : ℕ) {good : Bool} → good ≡ endGood known earlier former tick task cycles → good ≡ false → endsFrom text known left at earlier former sofar ≡ wrongEnds
+      pub end-not-good : (left : ℕ) {good : Bool} → good ≡ endGood known earlier former (tick .0) task (cycles .0) → good ≡ false → endsFrom text known left at earlier former sofar ≡ wrongEnds
       unfolding endsFrom withEnd
       end-not-good zero g h = rw e
       end-not-good (suc left) g h = rw (e, ← d, q, ← g, h)
 
       -- a good line leaves one line less to read
-      pub one-end : (left : ℕ) {good : Bool} → good ≡ endGood known earlier former tick task cycles → good ≡ true → endsFrom text known (suc left) at earlier former sofar ≡ endsFrom text known left next tick task (moreEnds sofar tick task cycles)
+      pub one-end : (left : ℕ) {good : Bool} → good ≡ endGood known earlier former (tick .0) task (cycles .0) → good ≡ true → endsFrom text known (suc left) at earlier former sofar ≡ endsFrom text known left next (tick .0) task (moreEnds sofar (tick .0) task (cycles .0))
       unfolding endsFrom withEnd
       one-end left g t = rw (e, ← d, q, ← g, t)
 
       -- a good line is taken to those before it
-      pub end-taken : (most count : ℕ) {good : Bool} → count < most → good ≡ endGood known earlier former tick task cycles → good ≡ true
-          → endsFrom text known (most - count) at earlier former sofar ≡ endsFrom text known (most - (count + 1)) next tick task (moreEnds sofar tick task cycles)
+      pub end-taken : (most count : ℕ) {good : Bool} → count < most → good ≡ endGood known earlier former (tick .0) task (cycles .0) → good ≡ true
+          → endsFrom text known (most - count) at earlier former sofar ≡ endsFrom text known (most - (count + 1)) next (tick .0) task (moreEnds sofar (tick .0) task (cycles .0))
       end-taken most count h g t = ap (λ (left : ℕ). endsFrom text known left at earlier former sofar) (omega arith) ∙ one-end (most - (count + 1)) g t
 
 -- before the first line all of them are left

@@ -6,12 +6,12 @@ use mathlib.Core.Logic.{_⊎_, inl, inr, ⊎-elim}
 use Prim.Native.Nat.{ℕ, zero, suc, _<_}
 use native.Mathlib.Nat.{not-suc-le-zero, le-of-suc-le-suc}
 use native.Mathlib.Omega.{arith}
-use borrow.Author.Tests.{ltb-true, leb-true}
+use borrow.Author.Tests.{eqb-true, ltb-true, leb-true}
 use lib.Dec.{eqb, ltb, leb}
 use lib.ListN.{length, getD, take}
 use lib.Seq.{getD-take, length-take-le}
-use Rattle.decimal.specs.declared.Field.{Field}
-use Rattle.decimal.specs.declared.Field.the-variants.{Number, NoNumber}
+use Rattle.lines.specs.declared.RunLine.{RunLine}
+use Rattle.lines.specs.declared.RunLine.the-variants.{Run, WrongRun}
 use Rattle.lines.specs.Lines.{taskWord, speedWord, runAt}
 use Rattle.runfile.specs.declared.Pairs.{Pairs}
 use Rattle.runfile.specs.declared.Ends.{Ends}
@@ -41,54 +41,54 @@ judged : (b : Bool) (f : RunFile) → (b ≡ true → Outcome f) → Outcome (co
 judged true f h = h refl
 judged false f h = inr refl
 
-module _ (text : List ℕ) (tasks : Pairs) (few : GoodPairs 16 tasks) where
-  module _ (speeds : Pairs) (fast : GoodPairs 8 speeds) where
+module _ (text : List ℕ) (tasks : Pairs) (few : GoodPairs mostTaskLines tasks) where
+  module _ (speeds : Pairs) (fast : GoodPairs mostSpeedLines speeds) where
     -- after good groups the run line decides
-    closed-outcome : (ends : Ends) → GoodEnds (tasks .count) ends → (f : Field) → Outcome (closed text tasks speeds ends f)
-    unfolding closed mostRunTicks
-    closed-outcome ends good (Number ticks next) =
-        judged (eqb next (length text) && leb ticks 10000 && all (λ t. ltb t ticks) (take (ends .count) (ends .ticks))) _ (λ e. inl (refl, file e))
+    closed-outcome : (ends : Ends) → GoodEnds (tasks .count) ends → (f : RunLine) → Outcome (closed text tasks speeds ends f)
+    unfolding closed
+    closed-outcome ends good (Run run next) =
+        judged (eqb next (length text) && leb (run .0) mostRunTicks && all (λ t. ltb t (run .0)) (take (ends .count) (ends .ticks))) _ (λ e. inl (refl, file e))
       where
-        below : all (λ t. ltb t ticks) (take (ends .count) (ends .ticks)) ≡ true → (k : ℕ) → k < ends .count → getD (ends .ticks) k 0 < ticks
+        below : all (λ t. ltb t (run .0)) (take (ends .count) (ends .ticks)) ≡ true → (k : ℕ) → k < ends .count → getD (ends .ticks) k 0 < run .0
         below e k h =
             let size : length (take (ends .count) (ends .ticks)) ≡ ends .count = length-take-le (ends .count) (ends .ticks) (omega (arith, good .few, good .ticks)) in
-            let found = all-at (λ t. ltb t ticks) (take (ends .count) (ends .ticks)) k e (rw size h) in
-            ltb-true (getD (ends .ticks) k 0) ticks (rw (getD-take (ends .count) (ends .ticks) k 0 h) at found)
+            let found = all-at (λ t. ltb t (run .0)) (take (ends .count) (ends .ticks)) k e (rw size h) in
+            ltb-true (getD (ends .ticks) k 0) (run .0) (rw (getD-take (ends .count) (ends .ticks) k 0 h) at found)
 
-        file : (eqb next (length text) && leb ticks 10000 && all (λ t. ltb t ticks) (take (ends .count) (ends .ticks))) ≡ true
-            → GoodFile (record { number = 0; tasks = tasks; speeds = speeds; ends = ends; ticks = ticks })
+        file : (eqb next (length text) && leb (run .0) mostRunTicks && all (λ t. ltb t (run .0)) (take (ends .count) (ends .ticks))) ≡ true
+            → GoodFile (record { number = 0; tasks = tasks; speeds = speeds; ends = ends; ticks = run })
         file e =
-            let parts = both (eqb next (length text) && leb ticks 10000) (all (λ t. ltb t ticks) (take (ends .count) (ends .ticks))) e in
+            let parts = both (eqb next (length text) && leb (run .0) mostRunTicks) (all (λ t. ltb t (run .0)) (take (ends .count) (ends .ticks))) e in
             record {
               tasks = few;
               speeds = fast;
               ends = good;
-              ticks = leb-true ticks 10000 (both (eqb next (length text)) (leb ticks 10000) (parts .0) .1);
+              ticks = leb-true (run .0) mostRunTicks (both (eqb next (length text)) (leb (run .0) mostRunTicks) (parts .0) .1);
               below = below (parts .1);
             }
-    closed-outcome ends good NoNumber = inr refl
+    closed-outcome ends good WrongRun = inr refl
 
     -- end lines, then the run line
-    ends-outcome : (r : EndsRead) → (r .good ≡ true → GoodEnds (tasks .count) (r .ends)) → Outcome (afterEnds text tasks speeds r)
+    ends-outcome : (r : EndsRead) → (r .number ≡ 0 → GoodEnds (tasks .count) (r .ends)) → Outcome (afterEnds text tasks speeds r)
     unfolding afterEnds
-    ends-outcome r good = judged (r .good) _ (λ e. closed-outcome (r .ends) (good e) (runAt text (r .next)))
+    ends-outcome r good = judged (eqb (r .number) 0) _ (λ e. closed-outcome (r .ends) (good (eqb-true (r .number) 0 e)) (runAt text (r .next)))
 
   -- speed lines, then the rest
-  speeds-outcome : (r : PairsRead) → (r .good ≡ true → GoodPairs 8 (r .pairs)) → Outcome (afterSpeeds text tasks r)
-  unfolding afterSpeeds mostEndLines
+  speeds-outcome : (r : PairsRead) → (r .number ≡ 0 → GoodPairs mostSpeedLines (r .pairs)) → Outcome (afterSpeeds text tasks r)
+  unfolding afterSpeeds
   speeds-outcome r good =
-      judged (r .good) _ (λ e. ends-outcome (r .pairs) (good e) (endsFrom text (tasks .count) 1000 (r .next) 0 0 noEnds) (all-ends-good text (tasks .count) (r .next)))
+      judged (eqb (r .number) 0) _ (λ e. ends-outcome (r .pairs) (good (eqb-true (r .number) 0 e)) (endsFrom text (tasks .count) mostEndLines (r .next) 0 0 noEnds) (all-ends-good text (tasks .count) (r .next)))
 
 -- task lines, then the rest
-tasks-outcome : (text : List ℕ) (r : PairsRead) → (r .good ≡ true → GoodPairs 16 (r .pairs)) → Outcome (afterTasks text r)
-unfolding afterTasks mostSpeedLines
+tasks-outcome : (text : List ℕ) (r : PairsRead) → (r .number ≡ 0 → GoodPairs mostTaskLines (r .pairs)) → Outcome (afterTasks text r)
+unfolding afterTasks
 tasks-outcome text r good =
-    judged (r .good) _ (λ e. speeds-outcome text (r .pairs) (good e) (pairsFrom speedWord text 8 (r .next) noPairs) (group-good speedWord text 8 (r .next)))
+    judged (eqb (r .number) 0) _ (λ e. speeds-outcome text (r .pairs) (good (eqb-true (r .number) 0 e)) (pairsFrom speedWord text mostSpeedLines (r .next) noPairs) (group-good speedWord text mostSpeedLines (r .next)))
 
 -- every text is one or the other
 outcome : (text : List ℕ) → Outcome (runFileOf text)
-unfolding runFileOf mostTaskLines
-outcome text = judged (leb (length text) mostBytes) _ (λ _. tasks-outcome text (pairsFrom taskWord text 16 0 noPairs) (group-good taskWord text 16 0))
+unfolding runFileOf
+outcome text = judged (leb (length text) mostBytes) _ (λ _. tasks-outcome text (pairsFrom taskWord text mostTaskLines 0 noPairs) (group-good taskWord text mostTaskLines 0))
 
 -- a text has number 0, or is 14 and nothing
 pub either : (text : List ℕ) → (runFileOf text .number ≡ 0) ⊎ (runFileOf text ≡ noRunFile)

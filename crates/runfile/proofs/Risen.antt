@@ -1,6 +1,6 @@
 -- What end lines keep while they are read: how many they are, the arrays' lengths, and that each is good after the one before. By the number of lines that may still be read.
 use mathlib.Core.Path.{_≡_, refl, _∙_}
-use mathlib.Core.Bool.{Bool, true, false, cond, false≢true}
+use mathlib.Core.Bool.{Bool, true, false, cond}
 use mathlib.Core.List.{List}
 use mathlib.Core.Logic.{_⊎_, inl, inr, ⊎-elim}
 use Prim.Native.Nat.{ℕ, zero, suc, _+_, _≤_, _<_}
@@ -16,27 +16,27 @@ use Rattle.lines.specs.declared.EndLine.the-variants.{End, WrongEnd}
 use Rattle.lines.specs.Lines.{endWord, endAt}
 use Rattle.runfile.specs.declared.Ends.{Ends}
 use Rattle.runfile.specs.declared.groups.EndsRead.{EndsRead}
-use Rattle.runfile.specs.Groups.{noEnds, moreEnds, endsRead, wrongEnds, endGood, withEnd, endsFrom}
+use Rattle.runfile.specs.Groups.{mostEndLines, noEnds, moreEnds, endsRead, wrongEnds, endGood, withEnd, endsFrom}
 use Rattle.runfile.specs.Good.{Rises, GoodEnds}
 use Rattle.runfile.proofs.Rising.{good-line}
 
 -- end lines that are good, with room for `left` more, the last of tick `earlier` and task `former`
 pub record Risen (known earlier former left : ℕ) (e : Ends) : Type 0 where
-  pub room : e .count + left ≤ 1000
+  pub room : e .count + left ≤ mostEndLines
   pub lines : GoodEnds known e
   pub last : (k : ℕ) → k + 1 ≡ e .count → (getD (e .ticks) k 0 ≡ earlier) × (getD (e .tasks) k 0 ≡ former)
 
 -- none read yet
-pub risen-none : (known earlier former : ℕ) → Risen known earlier former 1000 noEnds
+pub risen-none : (known earlier former : ℕ) → Risen known earlier former mostEndLines noEnds
 unfolding noEnds
 risen-none known earlier former =
     record {
       room = omega arith;
       lines = record {
         few = omega arith;
-        ticks = length-replicate {A = ℕ} 1000 0;
-        tasks = length-replicate {A = ℕ} 1000 0;
-        cycles = length-replicate {A = ℕ} 1000 0;
+        ticks = length-replicate {A = ℕ} mostEndLines 0;
+        tasks = length-replicate {A = ℕ} mostEndLines 0;
+        cycles = length-replicate {A = ℕ} mostEndLines 0;
         rise = λ k h. absurd (not-suc-le-zero h);
         exists = λ k h. absurd (not-suc-le-zero h);
         used = λ k h. absurd (not-suc-le-zero h);
@@ -62,7 +62,7 @@ below-or-at k n h = go (ltb k n) refl
 
 module _ (known earlier former left : ℕ) (e : Ends) (w : Risen known earlier former (suc left) e) (tick task cycles : ℕ) (g : endGood known earlier former tick task cycles ≡ true) where
   -- there is room for one line more
-  some-room : e .count < 1000
+  some-room : e .count < mostEndLines
   some-room = omega arith
 
   -- the new line rises above the last, and the others as they did
@@ -121,7 +121,7 @@ module _ (known earlier former left : ℕ) (e : Ends) (w : Risen known earlier f
 
 -- end lines that were read are good
 abbrev SoundEnds : ℕ → EndsRead → Type 0
-SoundEnds known r = r .good ≡ true → GoodEnds known (r .ends)
+SoundEnds known r = r .number ≡ 0 → GoodEnds known (r .ends)
 
 -- whichever of two answers is given, it is sound
 ends-either : (known : ℕ) (b : Bool) (r s : EndsRead) → (b ≡ true → SoundEnds known r) → SoundEnds known s → SoundEnds known (cond b r s)
@@ -131,17 +131,17 @@ ends-either known false r s h k = k
 -- wrong end lines claim nothing
 ends-wrong : (known : ℕ) → SoundEnds known wrongEnds
 unfolding wrongEnds
-ends-wrong known e = absurd (false≢true e)
+ends-wrong known e = absurd (not-suc-le-zero {n = 13} (omega (arith, e)))
 
 -- a line's numbers go on to a sound answer
 ends-with : (known : ℕ) (line : EndLine) (go : ℕ → ℕ → ℕ → ℕ → EndsRead) → ((tick task cycles next : ℕ) → SoundEnds known (go tick task cycles next)) → SoundEnds known (withEnd line go)
 unfolding withEnd
-ends-with known (End tick task cycles next) go h = h tick task cycles next
+ends-with known (End tick task cycles next) go h = h (tick .0) task (cycles .0) next
 ends-with known WrongEnd go h = ends-wrong known
 
 -- end lines read after good ones are good with them
 pub ends-good : (text : List ℕ) (known left at earlier former : ℕ) (e : Ends) → Risen known earlier former left e
-    → endsFrom text known left at earlier former e .good ≡ true → GoodEnds known (endsFrom text known left at earlier former e .ends)
+    → endsFrom text known left at earlier former e .number ≡ 0 → GoodEnds known (endsFrom text known left at earlier former e .ends)
 unfolding endsFrom endsRead
 ends-good text known zero at earlier former e w =
     ends-either known (standsAt text at endWord) wrongEnds (endsRead e at) (λ _. ends-wrong known) (λ _. w .lines)
@@ -155,9 +155,9 @@ ends-good text known (suc left) at earlier former e w =
     (λ _. w .lines)
 
 -- so are the end lines from the first one on
-pub all-ends-good : (text : List ℕ) (known at : ℕ) → endsFrom text known 1000 at 0 0 noEnds .good ≡ true → GoodEnds known (endsFrom text known 1000 at 0 0 noEnds .ends)
-all-ends-good text known at = ends-good text known 1000 at 0 0 noEnds (risen-none known 0 0)
+pub all-ends-good : (text : List ℕ) (known at : ℕ) → endsFrom text known mostEndLines at 0 0 noEnds .number ≡ 0 → GoodEnds known (endsFrom text known mostEndLines at 0 0 noEnds .ends)
+all-ends-good text known at = ends-good text known mostEndLines at 0 0 noEnds (risen-none known 0 0)
 
--- an answer that is those lines has at most 1,000
-pub few-ends : (text : List ℕ) (known at : ℕ) (r : EndsRead) → r ≡ endsFrom text known 1000 at 0 0 noEnds → r .good ≡ true → r .ends .count ≤ 1000
+-- an answer that is those lines has no more than the most
+pub few-ends : (text : List ℕ) (known at : ℕ) (r : EndsRead) → r ≡ endsFrom text known mostEndLines at 0 0 noEnds → r .number ≡ 0 → r .ends .count ≤ mostEndLines
 few-ends text known at r e g = rw e (all-ends-good text known at (rw e at g) .few)

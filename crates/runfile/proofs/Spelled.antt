@@ -9,8 +9,10 @@ use borrow.Author.Tests.{le-leb, leb-true, eqb-true}
 use lib.Dec.{eqb, ltb, leb}
 use lib.ListN.{length, take, drop, length-drop, length-replicate}
 use Rattle.words.specs.Words.{begins}
-use Rattle.decimal.specs.declared.Field.{Field}
-use Rattle.decimal.specs.declared.Field.the-variants.{Number, NoNumber}
+use Rattle.units.specs.declared.Ticks.{Ticks}
+use Rattle.units.specs.Units.{ticks}
+use Rattle.lines.specs.declared.RunLine.{RunLine}
+use Rattle.lines.specs.declared.RunLine.the-variants.{Run, WrongRun}
 use Rattle.lines.specs.Lines.{taskWord, speedWord, endWord, runWord, runAt}
 use Rattle.lines.specs.Spelled.{LastBreak, runLine}
 use Rattle.lines.proofs.Spelled.{run-read}
@@ -57,7 +59,6 @@ speed-other l = refl
 
 -- ticks of a run fit 64 bits
 small : {n : ℕ} → n ≤ mostRunTicks → n < 2 ^ 64
-unfolding mostRunTicks
 small h = omega arith
 
 -- before the first line there is none
@@ -65,17 +66,17 @@ no-line : noPairs .count ≡ 0
 unfolding noPairs
 no-line = refl
 
--- nor an end line, and there is room for 1,000
-no-end : (noEnds .count ≡ 0) × (length (noEnds .ticks) ≡ 1000)
+-- nor an end line, and there is room for the most
+no-end : (noEnds .count ≡ 0) × (length (noEnds .ticks) ≡ mostEndLines)
 unfolding noEnds
-no-end = (refl, length-replicate {A = ℕ} 1000 0)
+no-end = (refl, length-replicate {A = ℕ} mostEndLines 0)
 
 -- nor a tick
 no-tick : take (noEnds .count) (noEnds .ticks) ≡ []
 no-tick = ap (λ (n : ℕ). take n (noEnds .ticks)) (no-end .0)
 
 -- end lines laid from the first one on have the ticks of the lines
-all-ticks : (ls : List ThreeLine) → length ls ≤ 1000 → take (endsLaid noEnds ls .count) (endsLaid noEnds ls .ticks) ≡ ticksOf ls
+all-ticks : (ls : List ThreeLine) → length ls ≤ mostEndLines → take (endsLaid noEnds ls .count) (endsLaid noEnds ls .ticks) ≡ ticksOf ls
 all-ticks ls h = ends-ticks ls noEnds (omega (arith, no-end .0, no-end .1)) ∙ ap (λ (l : List ℕ). l ++ ticksOf ls) no-tick
 
 -- as many task lines were laid as there are
@@ -85,7 +86,7 @@ all-laid ls = omega (arith, pairs-count ls noPairs, no-line)
 module _ (text : List ℕ) (f : RunFile) (s : Spelled text f) where
   -- a text that is spelled is the file that its lines make
   pub read-spelled : runFileOf text ≡ f
-  unfolding spelling fileOf pairsRead endsRead mostTaskLines mostSpeedLines mostEndLines
+  unfolding spelling fileOf pairsRead endsRead
   read-spelled =
       let run = runLine (s .ticks) (s .last) in
       let others = run-other (s .ticks) (s .last) in
@@ -96,10 +97,10 @@ module _ (text : List ℕ) (f : RunFile) (s : Spelled text f) where
       let e = endsLaid noEnds (s .ends) in
       let notSpeed : begins afterTwo speedWord ≡ false = other-ends speedWord (s .ends) run (λ l. end-other l .1) (others .1) in
       let notTask : begins afterOne taskWord ≡ false = other-twos taskWord speedWord (s .speeds) afterTwo speed-other (other-ends taskWord (s .ends) run (λ l. end-other l .0) (others .0)) in
-      let one = pairs-read taskWord text afterOne notTask (s .tasks) 16 0 noPairs (s .tasksFit) (s .fewTasks) (s .bytes) in
-      let two = pairs-read speedWord text afterTwo notSpeed (s .speeds) 8 (one .0) noPairs (s .speedsFit) (s .fewSpeeds) (one .2) in
+      let one = pairs-read taskWord text afterOne notTask (s .tasks) mostTaskLines 0 noPairs (s .tasksFit) (s .fewTasks) (s .bytes) in
+      let two = pairs-read speedWord text afterTwo notSpeed (s .speeds) mostSpeedLines (one .0) noPairs (s .speedsFit) (s .fewSpeeds) (one .2) in
       let rise : endsRise (p .count) 0 0 (s .ends) ≡ true = rw (all-laid (s .tasks)) (s .rise) in
-      let three = ends-read text run (p .count) (others .2) (s .ends) 1000 (two .0) 0 0 noEnds (s .endsFit) rise (s .fewEnds) (two .2) in
+      let three = ends-read text run (p .count) (others .2) (s .ends) mostEndLines (two .0) 0 0 noEnds (s .endsFit) rise (s .fewEnds) (two .2) in
       let last = run-read text (three .0) (s .ticks) (s .last) (small (s .fewTicks)) (three .2) in
       tasks-first text (pairsRead p (one .0)) (s .size) (sym (one .1))
       ∙ speeds-next text (pairsRead p (one .0)) refl (sym (two .1))
@@ -128,16 +129,16 @@ module _ (text : List ℕ) (size : length text ≤ mostBytes) where
   some-left : (n : ℕ) → n < length text → 1 ≤ length (drop n text)
   some-left n h = omega (arith, length-drop n text)
 
-  module _ (p : Pairs) (one : ℕ) (first : one < length text → TakenTwos taskWord text 16 0 noPairs p one) where
-    module _ (q : Pairs) (two : ℕ) (second : two < length text → TakenTwos speedWord text 8 one noPairs q two) where
-      module _ (e : Ends) (three : ℕ) (third : three < length text → TakenThrees text (p .count) 1000 two 0 0 noEnds e three) where
+  module _ (p : Pairs) (one : ℕ) (first : one < length text → TakenTwos taskWord text mostTaskLines 0 noPairs p one) where
+    module _ (q : Pairs) (two : ℕ) (second : two < length text → TakenTwos speedWord text mostSpeedLines one noPairs q two) where
+      module _ (e : Ends) (three : ℕ) (third : three < length text → TakenThrees text (p .count) mostEndLines two 0 0 noEnds e three) where
         -- with a run line that ends the text the groups before it are spelled, the last first
-        whole : (ticks : ℕ) → runAt text three ≡ Number ticks (length text) → ticks ≤ mostRunTicks → all (λ t. ltb t ticks) (take (e .count) (e .ticks)) ≡ true
-            → Spelled text (record { number = 0; tasks = p; speeds = q; ends = e; ticks = ticks })
+        whole : (run : Ticks) → runAt text three ≡ Run run (length text) → run .0 ≤ mostRunTicks → all (λ t. ltb t (run .0)) (take (e .count) (e .ticks)) ≡ true
+            → Spelled text (record { number = 0; tasks = p; speeds = q; ends = e; ticks = run })
         unfolding spelling fileOf
-        whole ticks h few under =
-            let run = run-front text three ticks h in
-            let at3 : three < length text = left-within text three (runLine ticks (run .1 .0)) (run .1 .1) (run-some ticks (run .1 .0)) in
+        whole run h few under =
+            let line = run-front text three (run .0) h in
+            let at3 : three < length text = left-within text three (runLine (run .0) (line .1 .0)) (line .1 .1) (run-some (run .0) (line .1 .0)) in
             let ends = third at3 in
             let at2 : two < length text = left-within text two _ (ends .front) (ends-some (ends .lines) (drop three text) (some-left three at3)) in
             let speeds = second at2 in
@@ -149,10 +150,10 @@ module _ (text : List ℕ) (size : length text ≤ mostBytes) where
               tasks = tasks .lines;
               speeds = speeds .lines;
               ends = ends .lines;
-              ticks = ticks;
-              last = run .1 .0;
-              bytes = tasks .front ∙ ap (twoLines taskWord (tasks .lines)) (speeds .front ∙ ap (twoLines speedWord (speeds .lines)) (ends .front ∙ ap (endLines (ends .lines)) (run .1 .1)));
-              file = λ i. record { number = 0; tasks = tasks .laid i; speeds = speeds .laid i; ends = ends .laid i; ticks = ticks };
+              ticks = run .0;
+              last = line .1 .0;
+              bytes = tasks .front ∙ ap (twoLines taskWord (tasks .lines)) (speeds .front ∙ ap (twoLines speedWord (speeds .lines)) (ends .front ∙ ap (endLines (ends .lines)) (line .1 .1)));
+              file = λ i. record { number = 0; tasks = tasks .laid i; speeds = speeds .laid i; ends = ends .laid i; ticks = run };
               size = size;
               fewTasks = tasks .few;
               fewSpeeds = speeds .few;
@@ -166,37 +167,37 @@ module _ (text : List ℕ) (size : length text ≤ mostBytes) where
             }
 
         -- the run line decides
-        closed-back : (f : Field) → runAt text three ≡ f → closed text p q e f .number ≡ 0 → Spelled text (closed text p q e f)
+        closed-back : (f : RunLine) → runAt text three ≡ f → closed text p q e f .number ≡ 0 → Spelled text (closed text p q e f)
         unfolding closed
-        closed-back (Number ticks next) h =
-            judged (eqb next (length text) && leb ticks mostRunTicks && all (λ t. ltb t ticks) (take (e .count) (e .ticks))) _
+        closed-back (Run run next) h =
+            judged (eqb next (length text) && leb (run .0) mostRunTicks && all (λ t. ltb t (run .0)) (take (e .count) (e .ticks))) _
             (λ ok _.
-            let parts = both (eqb next (length text) && leb ticks mostRunTicks) (all (λ t. ltb t ticks) (take (e .count) (e .ticks))) ok in
-            let ends = both (eqb next (length text)) (leb ticks mostRunTicks) (parts .0) in
-            whole ticks (h ∙ ap (Number ticks) (eqb-true next (length text) (ends .0))) (leb-true ticks mostRunTicks (ends .1)) (parts .1))
-        closed-back NoNumber h = λ bad. absurd (refused bad)
+            let parts = both (eqb next (length text) && leb (run .0) mostRunTicks) (all (λ t. ltb t (run .0)) (take (e .count) (e .ticks))) ok in
+            let ends = both (eqb next (length text)) (leb (run .0) mostRunTicks) (parts .0) in
+            whole run (h ∙ ap (Run run) (eqb-true next (length text) (ends .0))) (leb-true (run .0) mostRunTicks (ends .1)) (parts .1))
+        closed-back WrongRun h = λ bad. absurd (refused bad)
 
       -- end lines, then the run line
-      ends-back : (r : EndsRead) → (r .good ≡ true → r .next < length text → TakenThrees text (p .count) 1000 two 0 0 noEnds (r .ends) (r .next)) → afterEnds text p q r .number ≡ 0 → Spelled text (afterEnds text p q r)
+      ends-back : (r : EndsRead) → (r .number ≡ 0 → r .next < length text → TakenThrees text (p .count) mostEndLines two 0 0 noEnds (r .ends) (r .next)) → afterEnds text p q r .number ≡ 0 → Spelled text (afterEnds text p q r)
       unfolding afterEnds
-      ends-back r back = judged (r .good) _ (λ g. closed-back (r .ends) (r .next) (back g) (runAt text (r .next)) refl)
+      ends-back r back = judged (eqb (r .number) 0) _ (λ g. closed-back (r .ends) (r .next) (back (eqb-true (r .number) 0 g)) (runAt text (r .next)) refl)
 
     -- speed lines, then the rest
-    speeds-back : (r : PairsRead) → (r .good ≡ true → r .next < length text → TakenTwos speedWord text 8 one noPairs (r .pairs) (r .next)) → afterSpeeds text p r .number ≡ 0 → Spelled text (afterSpeeds text p r)
-    unfolding afterSpeeds mostEndLines
-    speeds-back r back = judged (r .good) _ (λ g. ends-back (r .pairs) (r .next) (back g) _ (threes-back text (p .count) 1000 (r .next) 0 0 noEnds))
+    speeds-back : (r : PairsRead) → (r .number ≡ 0 → r .next < length text → TakenTwos speedWord text mostSpeedLines one noPairs (r .pairs) (r .next)) → afterSpeeds text p r .number ≡ 0 → Spelled text (afterSpeeds text p r)
+    unfolding afterSpeeds
+    speeds-back r back = judged (eqb (r .number) 0) _ (λ g. ends-back (r .pairs) (r .next) (back (eqb-true (r .number) 0 g)) _ (threes-back text (p .count) mostEndLines (r .next) 0 0 noEnds))
 
   -- task lines, then the rest
-  tasks-back : (r : PairsRead) → (r .good ≡ true → r .next < length text → TakenTwos taskWord text 16 0 noPairs (r .pairs) (r .next)) → afterTasks text r .number ≡ 0 → Spelled text (afterTasks text r)
-  unfolding afterTasks mostSpeedLines
-  tasks-back r back = judged (r .good) _ (λ g. speeds-back (r .pairs) (r .next) (back g) _ (twos-back speedWord text 8 (r .next) noPairs))
+  tasks-back : (r : PairsRead) → (r .number ≡ 0 → r .next < length text → TakenTwos taskWord text mostTaskLines 0 noPairs (r .pairs) (r .next)) → afterTasks text r .number ≡ 0 → Spelled text (afterTasks text r)
+  unfolding afterTasks
+  tasks-back r back = judged (eqb (r .number) 0) _ (λ g. speeds-back (r .pairs) (r .next) (back (eqb-true (r .number) 0 g)) _ (twos-back speedWord text mostSpeedLines (r .next) noPairs))
 
 -- a text that is a run file is spelled by lines that make it
 pub spelled-read : (text : List ℕ) → runFileOf text .number ≡ 0 → Spelled text (runFileOf text)
-unfolding runFileOf mostTaskLines
+unfolding runFileOf
 spelled-read text = go (leb (length text) mostBytes) refl
   where
-    go : (b : Bool) → leb (length text) mostBytes ≡ b → cond b (afterTasks text (pairsFrom taskWord text 16 0 noPairs)) noRunFile .number ≡ 0
-        → Spelled text (cond b (afterTasks text (pairsFrom taskWord text 16 0 noPairs)) noRunFile)
-    go true h = tasks-back text (leb-true (length text) mostBytes h) _ (twos-back taskWord text 16 0 noPairs)
+    go : (b : Bool) → leb (length text) mostBytes ≡ b → cond b (afterTasks text (pairsFrom taskWord text mostTaskLines 0 noPairs)) noRunFile .number ≡ 0
+        → Spelled text (cond b (afterTasks text (pairsFrom taskWord text mostTaskLines 0 noPairs)) noRunFile)
+    go true h = tasks-back text (leb-true (length text) mostBytes h) _ (twos-back taskWord text mostTaskLines 0 noPairs)
     go false h = λ bad. absurd (refused bad)

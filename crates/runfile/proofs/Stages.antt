@@ -6,8 +6,9 @@ use Prim.Native.Nat.{ℕ, _≤_, _<_}
 use borrow.Author.Tests.{le-leb, lt-leb, eq-eqb, ne-eqb}
 use lib.Dec.{leb, ltb}
 use lib.ListN.{length, take}
-use Rattle.decimal.specs.declared.Field.{Field}
-use Rattle.decimal.specs.declared.Field.the-variants.{Number, NoNumber}
+use Rattle.units.specs.declared.Ticks.{Ticks}
+use Rattle.lines.specs.declared.RunLine.{RunLine}
+use Rattle.lines.specs.declared.RunLine.the-variants.{Run, WrongRun}
 use Rattle.lines.specs.Lines.{taskWord, speedWord, runAt}
 use Rattle.runfile.specs.declared.Pairs.{Pairs}
 use Rattle.runfile.specs.declared.Ends.{Ends}
@@ -28,60 +29,60 @@ module _ (text : List ℕ) (r : PairsRead) where
   tasks-first h e = rw (le-leb (length text) mostBytes h, e)
 
   -- a wrong task line
-  pub tasks-wrong : r .good ≡ false → afterTasks text r ≡ noRunFile
+  pub tasks-wrong : (r .number ≡ 0 → ⊥) → afterTasks text r ≡ noRunFile
   unfolding afterTasks
-  tasks-wrong h = rw h
+  tasks-wrong h = rw (ne-eqb (r .number) 0 h)
 
   -- a wrong speed line
-  pub speeds-wrong : (tasks : Pairs) → r .good ≡ false → afterSpeeds text tasks r ≡ noRunFile
+  pub speeds-wrong : (tasks : Pairs) → (r .number ≡ 0 → ⊥) → afterSpeeds text tasks r ≡ noRunFile
   unfolding afterSpeeds
-  speeds-wrong tasks h = rw h
+  speeds-wrong tasks h = rw (ne-eqb (r .number) 0 h)
 
   -- the speed lines follow
-  pub speeds-next : {s : PairsRead} → r .good ≡ true → s ≡ pairsFrom speedWord text mostSpeedLines (r .next) noPairs → afterTasks text r ≡ afterSpeeds text (r .pairs) s
+  pub speeds-next : {s : PairsRead} → r .number ≡ 0 → s ≡ pairsFrom speedWord text mostSpeedLines (r .next) noPairs → afterTasks text r ≡ afterSpeeds text (r .pairs) s
   unfolding afterTasks
   speeds-next h e = rw (h, e)
 
   -- then the end lines
-  pub ends-next : (tasks : Pairs) {s : EndsRead} → r .good ≡ true → s ≡ endsFrom text (tasks .count) mostEndLines (r .next) 0 0 noEnds → afterSpeeds text tasks r ≡ afterEnds text tasks (r .pairs) s
+  pub ends-next : (tasks : Pairs) {s : EndsRead} → r .number ≡ 0 → s ≡ endsFrom text (tasks .count) mostEndLines (r .next) 0 0 noEnds → afterSpeeds text tasks r ≡ afterEnds text tasks (r .pairs) s
   unfolding afterSpeeds
   ends-next tasks h e = rw (h, e)
 
 module _ (text : List ℕ) (tasks speeds : Pairs) where
   -- a wrong end line
-  pub ends-wrong : (r : EndsRead) → r .good ≡ false → afterEnds text tasks speeds r ≡ noRunFile
+  pub ends-wrong : (r : EndsRead) → (r .number ≡ 0 → ⊥) → afterEnds text tasks speeds r ≡ noRunFile
   unfolding afterEnds
-  ends-wrong r h = rw h
+  ends-wrong r h = rw (ne-eqb (r .number) 0 h)
 
   -- the run line is last
-  pub run-last : (r : EndsRead) {f : Field} → r .good ≡ true → f ≡ runAt text (r .next) → afterEnds text tasks speeds r ≡ closed text tasks speeds (r .ends) f
+  pub run-last : (r : EndsRead) {f : RunLine} → r .number ≡ 0 → f ≡ runAt text (r .next) → afterEnds text tasks speeds r ≡ closed text tasks speeds (r .ends) f
   unfolding afterEnds
   run-last r h e = rw (h, e)
 
-  module _ (ends : Ends) {f : Field} where
+  module _ (ends : Ends) {f : RunLine} where
     -- no run line
-    pub run-wrong : f ≡ NoNumber → closed text tasks speeds ends f ≡ noRunFile
+    pub run-wrong : f ≡ WrongRun → closed text tasks speeds ends f ≡ noRunFile
     unfolding closed
     run-wrong h = ap (closed text tasks speeds ends) h
 
-    module _ {ticks next : ℕ} (h : f ≡ Number ticks next) where
+    module _ {run : Ticks} {next : ℕ} (h : f ≡ Run run next) where
       -- bytes follow the run line
       pub not-last : (next ≡ length text → ⊥) → closed text tasks speeds ends f ≡ noRunFile
       unfolding closed
       not-last k = ap (closed text tasks speeds ends) h ∙ rw (ne-eqb next (length text) k)
 
       -- the run line is last, and its ticks decide with those of the end lines
-      closing : next ≡ length text → {t : Bool} → t ≡ leb ticks mostRunTicks && all (λ x. ltb x ticks) (take (ends .count) (ends .ticks))
-          → closed text tasks speeds ends f ≡ cond t (record { number = 0; tasks = tasks; speeds = speeds; ends = ends; ticks = ticks }) noRunFile
+      closing : next ≡ length text → {t : Bool} → t ≡ leb (run .0) mostRunTicks && all (λ x. ltb x (run .0)) (take (ends .count) (ends .ticks))
+          → closed text tasks speeds ends f ≡ cond t (record { number = 0; tasks = tasks; speeds = speeds; ends = ends; ticks = run }) noRunFile
       unfolding closed
       closing k e = ap (closed text tasks speeds ends) h ∙ rw (eq-eqb next (length text) k, e)
 
       -- too many ticks, or an end line's tick not below them
-      pub not-closed : next ≡ length text → {t : Bool} → t ≡ leb ticks mostRunTicks && all (λ x. ltb x ticks) (take (ends .count) (ends .ticks)) → t ≡ false
+      pub not-closed : next ≡ length text → {t : Bool} → t ≡ leb (run .0) mostRunTicks && all (λ x. ltb x (run .0)) (take (ends .count) (ends .ticks)) → t ≡ false
           → closed text tasks speeds ends f ≡ noRunFile
       not-closed k e q = closing k e ∙ rw q
 
       -- a run file
-      pub all-closed : next ≡ length text → {t : Bool} → t ≡ leb ticks mostRunTicks && all (λ x. ltb x ticks) (take (ends .count) (ends .ticks)) → t ≡ true
-          → closed text tasks speeds ends f ≡ record { number = 0; tasks = tasks; speeds = speeds; ends = ends; ticks = ticks }
+      pub all-closed : next ≡ length text → {t : Bool} → t ≡ leb (run .0) mostRunTicks && all (λ x. ltb x (run .0)) (take (ends .count) (ends .ticks)) → t ≡ true
+          → closed text tasks speeds ends f ≡ record { number = 0; tasks = tasks; speeds = speeds; ends = ends; ticks = run }
       all-closed k e q = closing k e ∙ rw q

@@ -1,11 +1,13 @@
 -- A group that was read is spelled by lines: each line that was taken is the front of what was left. By the number of lines that may still be read.
 use mathlib.Core.Path.{_≡_, refl, ap, _∙_}
-use mathlib.Core.Bool.{Bool, true, false, cond, false≢true}
+use mathlib.Core.Bool.{Bool, true, false, cond}
 use mathlib.Core.List.{List, [], _∷_, _++_}
 use Prim.Native.Nat.{ℕ, zero, suc, zero-le, suc-le-suc, _+_, _^_, _≤_, _<_}
+use native.Mathlib.Nat.{not-suc-le-zero}
 use native.Mathlib.Omega.{arith}
 use borrow.Author.Tests.{lt-ltb}
 use lib.ListN.{length, drop, length-drop, length-append}
+use Rattle.units.specs.Units.{ticks, cycles}
 use Rattle.words.specs.Words.{standsAt}
 use Rattle.decimal.specs.Decimal.{decimalOf, fits64}
 use Rattle.decimal.proofs.Written.{some-digit}
@@ -64,7 +66,7 @@ pub record TakenTwos (word text : List ℕ) (left at : ℕ) (p q : Pairs) (next 
 
 -- a group that was read, and was not the end of the text, was spelled
 abbrev BackTwos : List ℕ → List ℕ → ℕ → ℕ → Pairs → PairsRead → Type 0
-BackTwos word text left at p r = r .good ≡ true → r .next < length text → TakenTwos word text left at p (r .pairs) (r .next)
+BackTwos word text left at p r = r .number ≡ 0 → r .next < length text → TakenTwos word text left at p (r .pairs) (r .next)
 
 module _ (word text : List ℕ) (left at : ℕ) (p : Pairs) where
   -- whichever of two answers is given, it was spelled
@@ -75,7 +77,7 @@ module _ (word text : List ℕ) (left at : ℕ) (p : Pairs) where
   -- the wrong group claims nothing
   twos-wrong : BackTwos word text left at p wrongPairs
   unfolding wrongPairs
-  twos-wrong e = absurd (false≢true e)
+  twos-wrong e = absurd (not-suc-le-zero {n = 13} (omega (arith, e)))
 
   -- nor does a wrong line
   twos-with : (line : PairLine) (go : ℕ → ℕ → ℕ → PairsRead) → ((a b n : ℕ) → line ≡ Pair a b n → BackTwos word text left at p (go a b n)) → BackTwos word text left at p (withPair line go)
@@ -125,7 +127,7 @@ pub record TakenThrees (text : List ℕ) (known left at earlier former : ℕ) (p
 
 -- end lines that were read, and were not the end of the text, were spelled
 abbrev BackThrees : List ℕ → ℕ → ℕ → ℕ → ℕ → ℕ → Ends → EndsRead → Type 0
-BackThrees text known left at earlier former p r = r .good ≡ true → r .next < length text → TakenThrees text known left at earlier former p (r .ends) (r .next)
+BackThrees text known left at earlier former p r = r .number ≡ 0 → r .next < length text → TakenThrees text known left at earlier former p (r .ends) (r .next)
 
 module _ (text : List ℕ) (known left at earlier former : ℕ) (p : Ends) where
   -- whichever of two answers is given, it was spelled
@@ -137,13 +139,13 @@ module _ (text : List ℕ) (known left at earlier former : ℕ) (p : Ends) where
   -- wrong end lines claim nothing
   threes-wrong : BackThrees text known left at earlier former p wrongEnds
   unfolding wrongEnds
-  threes-wrong e = absurd (false≢true e)
+  threes-wrong e = absurd (not-suc-le-zero {n = 13} (omega (arith, e)))
 
   -- nor does a wrong line
-  threes-with : (line : EndLine) (go : ℕ → ℕ → ℕ → ℕ → EndsRead) → ((a b c n : ℕ) → line ≡ End a b c n → BackThrees text known left at earlier former p (go a b c n))
+  threes-with : (line : EndLine) (go : ℕ → ℕ → ℕ → ℕ → EndsRead) → ((a b c n : ℕ) → line ≡ End (ticks a) b (cycles c) n → BackThrees text known left at earlier former p (go a b c n))
       → BackThrees text known left at earlier former p (withEnd line go)
   unfolding withEnd
-  threes-with (End a b c n) go h = h a b c n refl
+  threes-with (End a b c n) go h = h (a .0) b (c .0) n refl
   threes-with WrongEnd go h = threes-wrong
 
   -- no line taken
@@ -152,7 +154,7 @@ module _ (text : List ℕ) (known left at earlier former : ℕ) (p : Ends) where
   threes-none e inside = record { lines = []; few = zero-le; fit = refl; rise = refl; laid = refl; front = refl }
 
 -- one line taken, and those after it
-threes-more : (text : List ℕ) (known left at earlier former : ℕ) (p q : Ends) (next a b c n : ℕ) → standsAt text at endWord ≡ true → endAt text (at + 4) ≡ End a b c n
+threes-more : (text : List ℕ) (known left at earlier former : ℕ) (p q : Ends) (next a b c n : ℕ) → standsAt text at endWord ≡ true → endAt text (at + 4) ≡ End (ticks a) b (cycles c) n
     → endGood known earlier former a b c ≡ true → next < length text → TakenThrees text known left n a b (moreEnds p a b c) q next → TakenThrees text known (suc left) at earlier former p q next
 unfolding threesFit endsRise endsLaid endLines endWord
 threes-more text known left at earlier former p q next a b c n stands e good inside t =

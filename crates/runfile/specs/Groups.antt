@@ -1,6 +1,6 @@
 -- "Run files": the groups of lines, each line taken to what was read before it.
 use Prim.Native.Nat.{ℕ, zero, suc, _+_}
-use mathlib.Core.Bool.{Bool, true, false, cond, _&&_, _||_}
+use mathlib.Core.Bool.{Bool, cond, _&&_, _||_}
 use mathlib.Core.List.{List}
 use lib.Dec.{eqb, ltb, leb}
 use lib.ListN.{length, set, replicate}
@@ -16,18 +16,22 @@ use Rattle.lines.specs.declared.EndLine.the-variants.{End, WrongEnd}
 use Rattle.lines.specs.Lines.{endWord, pairAt, endAt}
 
 -- "at most 16", "at most 8", "at most 1,000"
-unfoldable pub mostTaskLines : ℕ
+abbrev pub mostTaskLines : ℕ
 mostTaskLines = 16
 
-unfoldable pub mostSpeedLines : ℕ
+abbrev pub mostSpeedLines : ℕ
 mostSpeedLines = 8
 
-unfoldable pub mostEndLines : ℕ
-mostEndLines = 1000
+abbrev pub mostEndLines : ℕ
+mostEndLines = 1_000
+
+-- "14 .. the text is not a run file"
+abbrev pub notRunFile : ℕ
+notRunFile = 14
 
 -- no line read yet, and one line more; places past the last hold zero
 unfoldable pub noPairs : Pairs
-noPairs = record { count = 0; firsts = replicate 16 0; seconds = replicate 16 0 }
+noPairs = record { count = 0; firsts = replicate mostTaskLines 0; seconds = replicate mostTaskLines 0 }
 
 unfoldable pub morePairs : Pairs → ℕ → ℕ → Pairs
 morePairs p first second =
@@ -38,7 +42,7 @@ morePairs p first second =
     }
 
 unfoldable pub noEnds : Ends
-noEnds = record { count = 0; ticks = replicate 1000 0; tasks = replicate 1000 0; cycles = replicate 1000 0 }
+noEnds = record { count = 0; ticks = replicate mostEndLines 0; tasks = replicate mostEndLines 0; cycles = replicate mostEndLines 0 }
 
 unfoldable pub moreEnds : Ends → ℕ → ℕ → ℕ → Ends
 moreEnds e tick task cycles =
@@ -49,18 +53,18 @@ moreEnds e tick task cycles =
       cycles = set (e .cycles) (e .count) cycles;
     }
 
--- a group that was read, with the place of the line after it; or a line that is wrong
+-- a group that was read, with the place of the line after it; or 14, where a line is wrong and the reading ends
 unfoldable pub pairsRead : Pairs → ℕ → PairsRead
-pairsRead p next = record { good = true; pairs = p; next = next }
+pairsRead p next = record { number = 0; pairs = p; next = next }
 
 unfoldable pub wrongPairs : PairsRead
-wrongPairs = record { good = false; pairs = noPairs; next = 0 }
+wrongPairs = record { number = notRunFile; pairs = noPairs; next = 0 }
 
 unfoldable pub endsRead : Ends → ℕ → EndsRead
-endsRead e next = record { good = true; ends = e; next = next }
+endsRead e next = record { number = 0; ends = e; next = next }
 
 unfoldable pub wrongEnds : EndsRead
-wrongEnds = record { good = false; ends = noEnds; next = 0 }
+wrongEnds = record { number = notRunFile; ends = noEnds; next = 0 }
 
 -- a line's numbers go on to what is read next
 unfoldable pub withPair : PairLine → (ℕ → ℕ → ℕ → PairsRead) → PairsRead
@@ -81,7 +85,7 @@ endGood tasks tickBefore taskBefore tick task cycles =
     (ltb tickBefore tick || (eqb tickBefore tick && ltb taskBefore task)) && (leb 1 task && leb task tasks) && leb 1 cycles
 
 unfoldable pub withEnd : EndLine → (ℕ → ℕ → ℕ → ℕ → EndsRead) → EndsRead
-withEnd (End tick task cycles next) go = go tick task cycles next
+withEnd (End tick task cycles next) go = go (tick .0) task (cycles .0) next
 withEnd WrongEnd go = wrongEnds
 
 -- end lines: as long as a line begins with `end,`; before the first stands tick 0, task 0, below every line that is good

@@ -4,26 +4,27 @@ use mathlib.Core.Bool.{Bool, cond, _&&_}
 use mathlib.Core.List.{List, [], _∷_}
 use lib.Dec.{eqb, ltb, leb}
 use lib.ListN.{length, take}
-use Rattle.decimal.specs.declared.Field.{Field}
-use Rattle.decimal.specs.declared.Field.the-variants.{Number, NoNumber}
+use Rattle.units.specs.Units.{ticks}
+use Rattle.lines.specs.declared.RunLine.{RunLine}
+use Rattle.lines.specs.declared.RunLine.the-variants.{Run, WrongRun}
 use Rattle.runfile.specs.declared.Pairs.{Pairs}
 use Rattle.runfile.specs.declared.Ends.{Ends}
 use Rattle.runfile.specs.declared.groups.PairsRead.{PairsRead}
 use Rattle.runfile.specs.declared.groups.EndsRead.{EndsRead}
 use Rattle.runfile.specs.declared.RunFile.{RunFile}
 use Rattle.lines.specs.Lines.{taskWord, speedWord, runAt}
-use Rattle.runfile.specs.Groups.{mostTaskLines, mostSpeedLines, mostEndLines, noPairs, noEnds, pairsFrom, endsFrom}
+use Rattle.runfile.specs.Groups.{mostTaskLines, mostSpeedLines, mostEndLines, notRunFile, noPairs, noEnds, pairsFrom, endsFrom}
 
 -- "At most 65,536 bytes", "ticks, 0 to 10,000"
-unfoldable pub mostBytes : ℕ
-mostBytes = 65536
+abbrev pub mostBytes : ℕ
+mostBytes = 65_536
 
-unfoldable pub mostRunTicks : ℕ
-mostRunTicks = 10000
+abbrev pub mostRunTicks : ℕ
+mostRunTicks = 10_000
 
 -- "All else is 14"
 unfoldable pub noRunFile : RunFile
-noRunFile = record { number = 14; tasks = noPairs; speeds = noPairs; ends = noEnds; ticks = 0 }
+noRunFile = record { number = notRunFile; tasks = noPairs; speeds = noPairs; ends = noEnds; ticks = ticks 0 }
 
 -- whether p holds for every number of a list
 unfoldable pub all : (ℕ → Bool) → List ℕ → Bool
@@ -31,27 +32,27 @@ all p [] = Bool.true
 all p (x ∷ xs) = p x && all p xs
 
 -- "one run line .. last", and end lines name "a tick below the run's"
-unfoldable pub closed : List ℕ → Pairs → Pairs → Ends → Field → RunFile
-closed text tasks speeds ends (Number ticks next) =
-    cond (eqb next (length text) && leb ticks mostRunTicks && all (λ t. ltb t ticks) (take (ends .count) (ends .ticks)))
-    (record { number = 0; tasks = tasks; speeds = speeds; ends = ends; ticks = ticks })
+unfoldable pub closed : List ℕ → Pairs → Pairs → Ends → RunLine → RunFile
+closed text tasks speeds ends (Run run next) =
+    cond (eqb next (length text) && leb (run .0) mostRunTicks && all (λ t. ltb t (run .0)) (take (ends .count) (ends .ticks)))
+    (record { number = 0; tasks = tasks; speeds = speeds; ends = ends; ticks = run })
     noRunFile
-closed text tasks speeds ends NoNumber = noRunFile
+closed text tasks speeds ends WrongRun = noRunFile
 
 -- "in that order of groups": after the end lines, after the speed lines, after the task lines
 unfoldable pub afterEnds : List ℕ → Pairs → Pairs → EndsRead → RunFile
 afterEnds text tasks speeds r =
-    cond (r .good) (closed text tasks speeds (r .ends) (runAt text (r .next))) noRunFile
+    cond (eqb (r .number) 0) (closed text tasks speeds (r .ends) (runAt text (r .next))) noRunFile
 
 unfoldable pub afterSpeeds : List ℕ → Pairs → PairsRead → RunFile
 afterSpeeds text tasks r =
-    cond (r .good)
+    cond (eqb (r .number) 0)
     (afterEnds text tasks (r .pairs) (endsFrom text (tasks .count) mostEndLines (r .next) 0 0 noEnds))
     noRunFile
 
 unfoldable pub afterTasks : List ℕ → PairsRead → RunFile
 afterTasks text r =
-    cond (r .good)
+    cond (eqb (r .number) 0)
     (afterSpeeds text (r .pairs) (pairsFrom speedWord text mostSpeedLines (r .next) noPairs))
     noRunFile
 

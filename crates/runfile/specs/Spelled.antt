@@ -5,13 +5,14 @@ use mathlib.Core.Bool.{Bool, true, _&&_}
 use mathlib.Core.List.{List, [], _∷_, _++_}
 use lib.Dec.{ltb}
 use lib.ListN.{length}
+use Rattle.units.specs.Units.{ticks}
 use Rattle.decimal.specs.Decimal.{fits64}
 use Rattle.lines.specs.Lines.{taskWord, speedWord, endWord}
 use Rattle.lines.specs.Spelled.{LineBreak, LastBreak, twoNumbers, threeNumbers, runLine}
 use Rattle.runfile.specs.declared.Pairs.{Pairs}
 use Rattle.runfile.specs.declared.Ends.{Ends}
 use Rattle.runfile.specs.declared.RunFile.{RunFile}
-use Rattle.runfile.specs.Groups.{noPairs, morePairs, noEnds, moreEnds, endGood}
+use Rattle.runfile.specs.Groups.{mostTaskLines, mostSpeedLines, mostEndLines, noPairs, morePairs, noEnds, moreEnds, endGood}
 use Rattle.runfile.specs.RunFile.{mostBytes, mostRunTicks, all}
 
 -- a task line (period, reserve) or a speed line (speed, volts), and an end line, each with its line's end
@@ -49,13 +50,13 @@ endsLaid e [] = e
 endsLaid e (l ∷ ls) = endsLaid (moreEnds e (l .tick) (l .task) (l .cycles)) ls
 
 unfoldable pub fileOf : List TwoLine → List TwoLine → List ThreeLine → ℕ → RunFile
-fileOf tasks speeds ends ticks =
+fileOf tasks speeds ends run =
     record {
       number = 0;
       tasks = pairsLaid noPairs tasks;
       speeds = pairsLaid noPairs speeds;
       ends = endsLaid noEnds ends;
-      ticks = ticks;
+      ticks = ticks run;
     }
 
 -- every number "fits 64 bits"
@@ -87,9 +88,9 @@ pub record Spelled (text : List ℕ) (f : RunFile) : Type 0 where
   pub bytes : text ≡ spelling tasks speeds ends ticks last
   pub file : f ≡ fileOf tasks speeds ends ticks
   pub size : length text ≤ mostBytes
-  pub fewTasks : length tasks ≤ 16
-  pub fewSpeeds : length speeds ≤ 8
-  pub fewEnds : length ends ≤ 1000
+  pub fewTasks : length tasks ≤ mostTaskLines
+  pub fewSpeeds : length speeds ≤ mostSpeedLines
+  pub fewEnds : length ends ≤ mostEndLines
   pub tasksFit : twosFit tasks ≡ true
   pub speedsFit : twosFit speeds ≡ true
   pub endsFit : threesFit ends ≡ true

@@ -9,20 +9,22 @@ ghost use Rattle.runfile.specs.RunFile.{noRunFile, all, mostRunTicks, af
 use crate::Ends;
 use crate::Pairs;
 use crate::RunFile;
-use decimal::Field;
 use lines::EndLine;
 use lines::PairLine;
+use lines::RunLine;
+use units::Cycles;
+use units::Ticks;
 
-// A group of task or speed lines that was read, and the place of the line after it; or a line that is wrong.
+// Number 0, a group of task or speed lines and the place of the line after it; or 14, where a line is wrong and the reading ends.
 pub(crate) struct PairsRead {
-    pub(crate) good: bool,
+    pub(crate) number: u64,
     pub(crate) pairs: Pairs,
     pub(crate) next: usize,
 }
 
-// The end lines that were read, and the place of the line after them; or a line that is wrong.
+// Number 0, the end lines and the place of the line after them; or 14, where a line is wrong and the reading ends.
 pub(crate) struct EndsRead {
-    pub(crate) good: bool,
+    pub(crate) number: u64,
     pub(crate) ends: Ends,
     pub(crate) next: usize,
 }
@@ -53,7 +55,7 @@ pub(crate) fn pairs(text: &[u8], at: usize, word: &[u8], most: usize) -> PairsRe
         next = after;
     }
     PairsRead {
-        good: true,
+        number: 0,
         pairs: sofar,
         next: next,
     }
@@ -65,7 +67,7 @@ pub(crate) fn ends(text: &[u8], at: usize, known: usize) -> EndsRead
 {
     let mut sofar = no_ends();
     let mut next = at;
-    let mut tick_before: u64 = 0;
+    let mut tick_before = Ticks(0);
     let mut task_before: u64 = 0;
     while words::stands(text, next, b"end,") {
         let count = sofar.count;
@@ -84,16 +86,16 @@ pub(crate) fn ends(text: &[u8], at: usize, known: usize) -> EndsRead
         if !good_end(known, tick_before, task_before, tick, task, cycles) {
             return wrong_ends();
         }
-        sofar.ticks[count] = tick;
+        sofar.ticks[count] = tick.0;
         sofar.tasks[count] = task;
-        sofar.cycles[count] = cycles;
+        sofar.cycles[count] = cycles.0;
         sofar.count = count + 1;
         next = after;
         tick_before = tick;
         task_before = task;
     }
     EndsRead {
-        good: true,
+        number: 0,
         ends: sofar,
         next: next,
     }
@@ -104,17 +106,13 @@ pub(crate) fn last_lines(text: &[u8], at: usize, tasks: Pairs, speeds: Pairs) ->
     ensures { λ r. ⌜ r ≡ afterEnds (now (text .entry)) tasks speeds (endsFrom (now (text .entry)) (tasks .count) 1000 at 0 0 noEnds) ⌝ }
 {
     let read = ends(text, at, tasks.count);
-    if !read.good {
+    if read.number != 0 {
         return no_run_file();
     }
-    let Field::Number {
-        value: ticks,
-        next: after,
-    } = lines::run_line(text, read.next)
-    else {
+    let RunLine::Run { ticks, next } = lines::run_line(text, read.next) else {
         return no_run_file();
     };
-    if after != text.len() {
+    if next != text.len() {
         return no_run_file();
     }
     let ends = read.ends;
@@ -133,18 +131,18 @@ pub(crate) fn last_lines(text: &[u8], at: usize, tasks: Pairs, speeds: Pairs) ->
 // Whether an end line rises above the one before, names a task that exists and at least 1 cycle.
 pub(crate) fn good_end(
     known: usize,
-    earlier: u64,
+    earlier: Ticks,
     former: u64,
-    tick: u64,
+    tick: Ticks,
     task: u64,
-    cycles: u64,
+    cycles: Cycles,
 ) -> bool
-    ensures { λ r. ⌜ r ≡ endGood known earlier former tick task cycles ⌝ }
+    ensures { λ r. ⌜ r ≡ endGood known (earlier .0) former (tick .0) task (cycles .0) ⌝ }
 {
-    if tick < earlier {
+    if tick.0 < earlier.0 {
         return false;
     }
-    if tick == earlier {
+    if tick.0 == earlier.0 {
         if task <= former {
             return false;
         }
@@ -155,22 +153,22 @@ pub(crate) fn good_end(
     if task > known as u64 {
         return false;
     }
-    cycles >= 1
+    cycles.0 >= 1
 }
 
 // Whether the run line's ticks are at most 10,000 and every end line's tick is below them.
-pub(crate) fn closes(ends: Ends, run: u64) -> bool
+pub(crate) fn closes(ends: Ends, run: Ticks) -> bool
     requires { ⌜ ends .count ≤ 1000 ⌝ }
-    ensures { λ r. ⌜ r ≡ (leb run mostRunTicks && all (λ t. ltb t run) (take (ends .count) (ends .ticks))) ⌝ }
+    ensures { λ r. ⌜ r ≡ (leb (run .0) mostRunTicks && all (λ t. ltb t (run .0)) (take (ends .count) (ends .ticks))) ⌝ }
 {
-    if run > 10000 {
+    if run.0 > 10000 {
         return false;
     }
     let ticks = ends.ticks;
     let n = ends.count;
     let mut i = 0;
     while i < n {
-        if ticks[i] >= run {
+        if ticks[i] >= run.0 {
             return false;
         }
         i += 1;
@@ -178,12 +176,12 @@ pub(crate) fn closes(ends: Ends, run: u64) -> bool
     true
 }
 
-// A line of the group is wrong.
+// 14: a line of the group is wrong, and the reading ends there.
 pub(crate) fn wrong_pairs() -> PairsRead
     ensures { λ r. ⌜ r ≡ wrongPairs ⌝ }
 {
     PairsRead {
-        good: false,
+        number: 14,
         pairs: no_pairs(),
         next: 0,
     }
@@ -193,7 +191,7 @@ pub(crate) fn wrong_ends() -> EndsRead
     ensures { λ r. ⌜ r ≡ wrongEnds ⌝ }
 {
     EndsRead {
-        good: false,
+        number: 14,
         ends: no_ends(),
         next: 0,
     }
@@ -230,6 +228,6 @@ pub(crate) fn no_run_file() -> RunFile
         tasks: no_pairs(),
         speeds: no_pairs(),
         ends: no_ends(),
-        ticks: 0,
+        ticks: Ticks(0),
     }
 }

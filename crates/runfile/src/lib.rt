@@ -3,8 +3,9 @@ mod groups;
 
 ghost use mathlib.Core.Path.{_≡_};
 ghost use Rattle.runfile.specs.RunFile.{runFileOf};
+use units::Ticks;
 
-// Task lines (period, reserve) or speed lines (speed, volts): how many, and the two numbers of each; zero past the last.
+// Task lines (period in ticks, reserve in cycles) or speed lines (speed, volts): how many, and the two numbers of each; zero past the last.
 pub struct Pairs {
     pub count: usize,
     pub firsts: [u64; 16],
@@ -25,7 +26,7 @@ pub struct RunFile {
     pub tasks: Pairs,
     pub speeds: Pairs,
     pub ends: Ends,
-    pub ticks: u64,
+    pub ticks: Ticks,
 }
 
 // The run file that a text is; 14 where it is none.
@@ -36,11 +37,11 @@ pub fn read(text: &[u8]) -> RunFile
         return groups::no_run_file();
     }
     let tasks = groups::pairs(text, 0, b"task,", 16);
-    if !tasks.good {
+    if tasks.number != 0 {
         return groups::no_run_file();
     }
     let speeds = groups::pairs(text, tasks.next, b"speed,", 8);
-    if !speeds.good {
+    if speeds.number != 0 {
         return groups::no_run_file();
     }
     let task_lines = tasks.pairs;

@@ -87,35 +87,35 @@ returns-2 c = let a = c .before .before .before in
     (c .unplayed2 .ensures ∙ done .0, done .1)
 
 add-if3 : tie.Need-add-if3
-add-if3 c = let e = passed (c .before .before) in
+add-if3 c = let e = passed (c .before .before .before) in
     width-fits (begin (told e) .args .text .now) (told e .read .result) (told e .read .ensures) (begin (told e) .args .rows .now) (e .if1 .left)
 
 mul-if3 : tie.Need-mul-if3
-mul-if3 c = let e = passed (c .before .before) in
+mul-if3 c = let e = passed (c .before .before .before) in
     needed-fits (begin (told e) .args .text .now) (told e .read .result) (told e .read .ensures) (begin (told e) .args .rows .now) (e .if1 .left)
 
 unplayed-requires-3 : tie.Need-unplayed-requires-3
 unplayed-requires-3 c κs = tt
 
 returns-3 : tie.Need-returns-3
-returns-3 c = let a = c .before .before .before .before in
+returns-3 c = let a = c .before .before .before .before .before in
     let e = passed a in
-    let done = no-room (begin (told e) .args .text .now) (told e .read .result) (told e .read .ensures) (begin (told e) .args .rows .now) (e .if1 .left) (a .start .result) (a .start .ensures) (c .before .before .if2 .left) (c .before .if3 .taken) in
+    let done = no-room (begin (told e) .args .text .now) (told e .read .result) (told e .read .ensures) (begin (told e) .args .rows .now) (e .if1 .left) (a .start .result) (a .start .ensures) (c .before .before .before .if2 .left) (c .before .if3 .taken) in
     (c .unplayed3 .ensures ∙ done .0, done .1)
 
 play-run-requires : tie.Need-play-run-requires
-play-run-requires c κs = let a = c .before .before .before .before in
+play-run-requires c κs = let a = c .before .before .before .before .before in
     let e = passed a in
-    runnable (begin (told e) .args .text .now) (told e .read .result) (told e .read .ensures) (begin (told e) .args .rows .now) (e .if1 .left) (a .start .result) (a .start .ensures) (c .before .before .if2 .left) (c .before .if3 .left)
+    runnable (begin (told e) .args .text .now) (told e .read .result) (told e .read .ensures) (begin (told e) .args .rows .now) (e .if1 .left) (a .start .result) (a .start .ensures) (c .before .before .before .if2 .left) (c .before .if3 .left)
 
 same-length : tie.Need-same-length
 same-length c = search needs
 
 returns-4 : tie.Need-returns-4
 returns-4 c = let p = c .before .before in
-    let a = p .before .before .before .before .before in
+    let a = p .before .before .before .before .before .before in
     let e = passed a in
-    all-played (begin (told e) .args .text .now) (told e .read .result) (told e .read .ensures) (begin (told e) .args .rows .now) (e .if1 .left) (a .start .result) (a .start .ensures) (p .before .before .before .if2 .left) (p .before .before .if3 .left) (p .play-run .result) _ (p .play-run .ensures .0) (p .play-run .ensures .1)
+    all-played (begin (told e) .args .text .now) (told e .read .result) (told e .read .ensures) (begin (told e) .args .rows .now) (e .if1 .left) (a .start .result) (a .start .ensures) (p .before .before .before .before .if2 .left) (p .before .before .if3 .left) (p .play-run .result) _ (p .play-run .ensures .0) (p .play-run .ensures .1)
 
 pub play-spec : {M : Type 1} → statement M
 play-spec =

@@ -10,13 +10,13 @@ use Rattle.player.proofs.ticks.enter.Statement.{statement}
 use Rattle.player.proofs.ticks.enter.Tie as tie
 
 abbrev Inv-loop : tie.InvT-loop
-Inv-loop when who cycles from t report₀ k₀ report k =
+Inv-loop when who cycles from report₀ tick k₀ report k =
     (length report ≡ length report₀)
-    × (pastTick when t from ≡ pastTick when t k)
-    × (entered when who cycles t from report₀ ≡ entered when who cycles t k report)
+    × (pastTick when tick from ≡ pastTick when tick k)
+    × (entered when who cycles tick from report₀ ≡ entered when who cycles tick k report)
 
 abbrev μ-loop : tie.MeasureT-loop
-μ-loop when who cycles from t report₀ k₀ report k = length when - k
+μ-loop when who cycles from report₀ tick k₀ report k = length when - k
 
 loop-holds : tie.Need-loop-holds Inv-loop μ-loop
 loop-holds c = (refl, refl, refl)
@@ -71,8 +71,8 @@ loop-again c = let l = c .before .before .before .before in
     let a = l .before .before .args in
     let v = l .before .loop in (
       length-set (v .report) _ _ ∙ v .inv .0,
-      v .inv .1 ∙ past-more (a .when .now) (a .t) (v .k) (l .loop-test .taken) (c .before .before .if1 .left),
-      v .inv .2 ∙ enter-more (a .when .now) (a .who .now) (a .cycles .now) (a .t) (v .k) (v .report) (l .loop-test .taken) (c .before .before .if1 .left),
+      v .inv .1 ∙ past-more (a .when .now) (a .t .0) (v .k) (l .loop-test .taken) (c .before .before .if1 .left),
+      v .inv .2 ∙ enter-more (a .when .now) (a .who .now) (a .cycles .now) (a .t .0) (v .k) (v .report) (l .loop-test .taken) (c .before .before .if1 .left),
     )
 
 same-length : tie.Need-same-length Inv-loop μ-loop
@@ -81,8 +81,8 @@ same-length c = c .before .loop .inv .0
 returns : tie.Need-returns Inv-loop μ-loop
 returns c = let a = c .before .before .args in
     let v = c .before .loop in
-    let none = front-none (a .when .now) (a .t) (v .k) (c .loop-test .left) in
-    (sym (v .inv .1 ∙ past-here (a .when .now) (a .t) (v .k) none), sym (v .inv .2 ∙ enter-none (a .when .now) (a .who .now) (a .cycles .now) (a .t) (v .k) (v .report) none))
+    let none = front-none (a .when .now) (a .t .0) (v .k) (c .loop-test .left) in
+    (sym (v .inv .1 ∙ past-here (a .when .now) (a .t .0) (v .k) none), sym (v .inv .2 ∙ enter-none (a .when .now) (a .who .now) (a .cycles .now) (a .t .0) (v .k) (v .report) none))
 
 same-length-2 : tie.Need-same-length-2 Inv-loop μ-loop
 same-length-2 c = c .before .before .before .loop .inv .0
@@ -91,8 +91,8 @@ returns-2 : tie.Need-returns-2 Inv-loop μ-loop
 returns-2 c = let l = c .before .before in
     let a = l .before .before .args in
     let v = l .before .loop in
-    let none = front-other (a .when .now) (a .t) (v .k) (l .loop-test .taken) (c .if1 .taken) in
-    (sym (v .inv .1 ∙ past-here (a .when .now) (a .t) (v .k) none), sym (v .inv .2 ∙ enter-none (a .when .now) (a .who .now) (a .cycles .now) (a .t) (v .k) (v .report) none))
+    let none = front-other (a .when .now) (a .t .0) (v .k) (l .loop-test .taken) (c .if1 .taken) in
+    (sym (v .inv .1 ∙ past-here (a .when .now) (a .t .0) (v .k) none), sym (v .inv .2 ∙ enter-none (a .when .now) (a .who .now) (a .cycles .now) (a .t .0) (v .k) (v .report) none))
 
 pub enter-spec : {M : Type 1} → statement M
 enter-spec =

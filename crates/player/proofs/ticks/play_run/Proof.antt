@@ -11,18 +11,18 @@ use Rattle.player.proofs.ticks.play_run.Statement.{statement}
 use Rattle.player.proofs.ticks.play_run.Tie as tie
 
 abbrev Inv-loop : tie.InvT-loop
-Inv-loop run rows₀ when who cycles e n current₀ t₀ next₀ at₀ rows current t next at =
-    Going (endsOf (record { count = e; ticks = when; tasks = who; cycles = cycles })) (take (e - 0) when) run current₀ rows₀ current rows t next at
+Inv-loop rows₀ when who cycles e n all current₀ t₀ next₀ at₀ rows current t next at =
+    Going (endsOf (record { count = e; ticks = when; tasks = who; cycles = cycles })) (take (e - 0) when) all current₀ rows₀ current rows t next at
 
 abbrev μ-loop : tie.MeasureT-loop
-μ-loop run rows₀ when who cycles e n current₀ t₀ next₀ at₀ rows current t next at = run - t
+μ-loop rows₀ when who cycles e n all current₀ t₀ next₀ at₀ rows current t next at = all - t
 
 -- where the function begins, and the end lines there
 abbrev begin : tie.At-loop Inv-loop μ-loop → tie.Start Inv-loop μ-loop
 begin c = c .before .before .before .before .before .before
 
 lines-of : (c : tie.Start Inv-loop μ-loop) → Lines (endsOf (c .args .ends)) (c .args .state .tasks .count) (take (c .args .ends .count - 0) (c .args .ends .ticks)) (take (c .args .ends .count - 0) (c .args .ends .tasks)) (take (c .args .ends .count - 0) (c .args .ends .cycles))
-lines-of c = lines (c .args .state) (c .args .ends) (c .args .run) _ (c .pre)
+lines-of c = lines (c .args .state) (c .args .ends) (c .args .run .0) _ (c .pre)
 
 -- a turn, at its tick
 abbrev turn : tie.After-enter Inv-loop μ-loop → tie.At-loop Inv-loop μ-loop
@@ -136,7 +136,7 @@ returns c = let p = c .before .before .before .before in
 
 add-t : tie.Need-add-t Inv-loop μ-loop
 add-t c = let i = c .before .before .before .before .before .before .before .before .before .before .before .before .before .before .before .before .before .before in
-    omega (arith, i .loop-test .taken, begin (i .before) .fits .run)
+    omega (arith, i .loop-test .taken, begin (i .before) .good .1 .1 .0)
 
 loop-less : tie.Need-loop-less Inv-loop μ-loop
 loop-less c = omega (arith, c .before .before .before .before .before .before .before .before .before .before .before .before .before .before .before .before .before .before .loop-test .taken)

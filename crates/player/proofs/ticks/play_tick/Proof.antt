@@ -76,36 +76,42 @@ part-sum-end : tie.Need-part-sum-end
 part-sum-end c = let e = c .before .before .before in
     let a = e .before .before .before .before in
     let b = begin a in
-    let long = row-long (b .args .state) (b .args .report .now) (b .args .row .now) (b .pre) (a .tick .result) _ (a .tick .ensures .0) (a .tick .ensures .1) (shape b) (e .if1 .left) (c .before .idled .result) (c .before .idled .ensures) in
+    let long = row-long (b .args .state) (b .args .report .now) (b .args .row .now) (b .pre) (a .tick .result) _ (a .tick .ensures .0) (a .tick .ensures .1) (shape b) (e .if1 .left) (c .before .idled .result .0) (c .before .idled .ensures) in
     omega (arith, long)
 
 sum-requires : tie.Need-sum-requires
 sum-requires c κs = let e = c .before .before .before .before in
     let a = e .before .before .before .before in
     let b = begin a in
-    sum-fits (b .args .state) (b .args .report .now) (b .args .row .now) (b .pre) (a .tick .result) _ (a .tick .ensures .0) (a .tick .ensures .1) (shape b) (e .if1 .left) (c .before .before .idled .result) (c .before .before .idled .ensures)
+    sum-fits (b .args .state) (b .args .report .now) (b .args .row .now) (b .pre) (a .tick .result) _ (a .tick .ensures .0) (a .tick .ensures .1) (shape b) (e .if1 .left) (c .before .before .idled .result .0) (c .before .before .idled .ensures)
 
-add-row : tie.Need-add-row
-add-row c = let e = c .before .before .before .before .before in
+add-t19 : tie.Need-add-t19
+add-t19 c = let g = c .before .before in
+    let e = g .before .before .before .before .before in
     let a = e .before .before .before .before in
     let b = begin a in
-    speed-fits (b .args .state) (b .args .report .now) (b .args .row .now) (b .pre) (a .tick .result) _ (a .tick .ensures .0) (a .tick .ensures .1) (shape b) (e .if1 .left) (c .before .before .before .idled .result) (c .before .before .before .idled .ensures) (c .sum .result) (c .sum .ensures)
+    speed-fits (b .args .state) (b .args .report .now) (b .args .row .now) (b .pre) (a .tick .result) _ (a .tick .ensures .0) (a .tick .ensures .1) (shape b) (e .if1 .left) (g .before .before .before .idled .result .0) (g .before .before .before .idled .ensures) (g .sum .result .0) (g .sum .ensures)
+
+per-tick-requires : tie.Need-per-tick-requires
+per-tick-requires c κs = tt
 
 slice-write-row-2 : tie.Need-slice-write-row-2
-slice-write-row-2 c = let e = c .before .before .before .before .before in
+slice-write-row-2 c = let g = c .before .before .before in
+    let e = g .before .before .before .before .before in
     let a = e .before .before .before .before in
     let b = begin a in
-    let long = row-long (b .args .state) (b .args .report .now) (b .args .row .now) (b .pre) (a .tick .result) _ (a .tick .ensures .0) (a .tick .ensures .1) (shape b) (e .if1 .left) (c .before .before .before .idled .result) (c .before .before .before .idled .ensures) in
+    let long = row-long (b .args .state) (b .args .report .now) (b .args .row .now) (b .pre) (a .tick .result) _ (a .tick .ensures .0) (a .tick .ensures .1) (shape b) (e .if1 .left) (g .before .before .before .idled .result .0) (g .before .before .before .idled .ensures) in
     omega (arith, long)
 
 same-length-2 : tie.Need-same-length-2
 same-length-2 c = search needs
 
 returns-2 : tie.Need-returns-2
-returns-2 c = let e = c .before .before .before .before .before in
+returns-2 c = let g = c .before .before .before in
+    let e = g .before .before .before .before .before in
     let a = e .before .before .before .before in
     let b = begin a in
-    (ticked-is (b .args .state) (b .args .report .now) (b .args .row .now) (b .pre) (a .tick .result) _ (a .tick .ensures .0) (a .tick .ensures .1), row-is (b .args .state) (b .args .report .now) (b .args .row .now) (b .pre) (a .tick .result) _ (a .tick .ensures .0) (a .tick .ensures .1) (shape b) (e .if1 .left) (c .before .before .before .idled .result) (c .before .before .before .idled .ensures) (c .sum .result) (c .sum .ensures))
+    (ticked-is (b .args .state) (b .args .report .now) (b .args .row .now) (b .pre) (a .tick .result) _ (a .tick .ensures .0) (a .tick .ensures .1), row-is (b .args .state) (b .args .report .now) (b .args .row .now) (b .pre) (a .tick .result) _ (a .tick .ensures .0) (a .tick .ensures .1) (shape b) (e .if1 .left) (g .before .before .before .idled .result .0) (g .before .before .before .idled .ensures) (g .sum .result .0) (g .sum .ensures) (c .per-tick .result) (c .per-tick .ensures))
 
 pub play-tick-spec : {M : Type 1} → statement M
 play-tick-spec =
@@ -125,7 +131,8 @@ play-tick-spec =
     part-sum-start
     part-sum-end
     sum-requires
-    add-row
+    add-t19
+    per-tick-requires
     slice-write-row-2
     same-length-2
     returns-2)

@@ -9,10 +9,10 @@ use Rattle.player.proofs.ticks.sum.Statement.{statement}
 use Rattle.player.proofs.ticks.sum.Tie as tie
 
 abbrev Inv-loop : tie.InvT-loop
-Inv-loop values sofar₀ i₀ sofar i = (i ≤ length values) × (total (λ g. g) values ≡ sofar + total (λ g. g) (drop i values))
+Inv-loop grants sofar₀ i₀ sofar i = (i ≤ length grants) × (total (λ g. g) grants ≡ sofar + total (λ g. g) (drop i grants))
 
 abbrev μ-loop : tie.MeasureT-loop
-μ-loop values sofar₀ i₀ sofar i = length values - i
+μ-loop grants sofar₀ i₀ sofar i = length grants - i
 
 loop-holds : tie.Need-loop-holds Inv-loop μ-loop
 loop-holds c = (omega arith, omega arith)
@@ -25,7 +25,7 @@ shared-slice-read-sofar c = omega arith
 
 add-sofar : tie.Need-add-sofar Inv-loop μ-loop
 add-sofar c = let l = c .before .before in
-    omega (arith, c .before .before .before .pre, sum-turn (l .before .args .values .now) (l .loop .i) (c .before .loop-test .taken))
+    omega (arith, c .before .before .before .pre, sum-turn (l .before .args .grants .now) (l .loop .i) (c .before .loop-test .taken))
 
 add-i : tie.Need-add-i Inv-loop μ-loop
 add-i c = omega arith
@@ -35,11 +35,11 @@ loop-less c = omega arith
 
 loop-again : tie.Need-loop-again Inv-loop μ-loop
 loop-again c = let l = c .before .before in
-    (omega arith, omega (arith, l .loop .inv .1, sum-turn (l .before .args .values .now) (l .loop .i) (c .before .loop-test .taken)))
+    (omega arith, omega (arith, l .loop .inv .1, sum-turn (l .before .args .grants .now) (l .loop .i) (c .before .loop-test .taken)))
 
 returns : tie.Need-returns Inv-loop μ-loop
 returns c = let l = c .before in
-    omega (arith, l .loop .inv .1, sum-end (l .before .args .values .now) (l .loop .i) (c .loop-test .left))
+    omega (arith, l .loop .inv .1, sum-end (l .before .args .grants .now) (l .loop .i) (c .loop-test .left))
 
 pub sum-spec : {M : Type 1} → statement M
 sum-spec =

@@ -18,14 +18,14 @@ energy-requires c κs = tt
 
 granted-requires : tie.Need-granted-requires
 unfolding Summed
-granted-requires c κs = can-sum (c .before .before .before .before .args .state) (c .before .before .before .before .pre (c .before .before .before .if1 .left))
+granted-requires c κs = can-sum (c .before .before .before .args .state) (c .before .before .before .pre (c .before .before .if1 .left))
 
 returns-2 : tie.Need-returns-2
 unfolding totalsOf
 returns-2 c =
     let a = c .before .before .before .before .before .args in
     let t = a .state .tally in
-    ap (λ (n : ℕ). record { refused = false; count = 5; values = n ∷ t .idle .0 ∷ c .before .before .before .energy .result .energy ∷ t .late ∷ t .cut ∷ [] }) (c .granted .ensures)
+    ap (λ (n : ℕ). record { refused = false; count = 5; values = n ∷ t .idle .0 ∷ c .before .before .before .energy .result .energy ∷ t .late ∷ t .cut ∷ [] }) (c .before .granted .ensures)
     ∙ ap (λ (u : Used). record { refused = false; count = 5; values = cyclesOf (t .counts) ∷ t .idle .0 ∷ u .energy ∷ t .late ∷ t .cut ∷ [] }) (c .before .before .before .energy .ensures)
     ∙ last-total (a .number) (a .state) (c .before .before .before .before .if1 .left)
 

@@ -13,10 +13,10 @@ use Rattle.printout.proofs.rows.put_rows.Statement.{statement}
 use Rattle.printout.proofs.rows.put_rows.Tie as tie
 
 abbrev Inv-loop : tie.InvT-loop
-Inv-loop out₀ rows width ticks place₀ at₀ t₀ out place at t = (t ≤ ticks) × (at + (ticks - t) * width ≡ ticks * width) × (length out ≡ length out₀) × (place + length (rowLines width (ticks - t) t (drop at rows)) ≡ length (rowLines width ticks 0 rows)) × (sets out place (rowLines width (ticks - t) t (drop at rows)) ≡ sets out₀ 0 (rowLines width ticks 0 rows))
+Inv-loop out₀ rows width place₀ at₀ all t₀ out place at t = (t ≤ all) × (at + (all - t) * width ≡ all * width) × (length out ≡ length out₀) × (place + length (rowLines width (all - t) t (drop at rows)) ≡ length (rowLines width all 0 rows)) × (sets out place (rowLines width (all - t) t (drop at rows)) ≡ sets out₀ 0 (rowLines width all 0 rows))
 
 abbrev μ-loop : tie.MeasureT-loop
-μ-loop out₀ rows width ticks place₀ at₀ t₀ out place at t = ticks - t
+μ-loop out₀ rows width place₀ at₀ all t₀ out place at t = all - t
 
 -- after the fields of a row: the place after them, the buffer with its length, and room for the line's end
 row-put : (c : tie.After-slice-known3 Inv-loop μ-loop) →
@@ -34,21 +34,21 @@ row-put c =
     let p = c .before .before .before .before .before .before .before .put in
     let f = c .before .before .put-fields in
     let fields = fieldsOf (take (b .loop .at + a .width - b .loop .at) (drop (b .loop .at) (a .rows .now))) in
-    let more = first-line-length (a .ticks) (b .loop .t) (omega arith) (a .rows .now) (a .width) (b .loop .at) in
+    let more = first-line-length (a .ticks .0) (b .loop .t) (omega arith) (a .rows .now) (a .width) (b .loop .at) in
     let stored = row-stored (b .loop .out) (b .loop .place) (decimalOf (b .loop .t)) fields (p .last .0) (f .last .0) (p .result) (f .result) (omega arith) (p .ensures .0) (p .ensures .1) (f .ensures .0) (f .ensures .1) in
     (stored .0, stored .1, stored .2, omega arith)
 
 loop-holds : tie.Need-loop-holds Inv-loop μ-loop
 loop-holds c =
     let a = c .before .before .args in
-    let e = all-left (a .width) (a .ticks) (a .rows .now) in
+    let e = all-left (a .width) (a .ticks .0) (a .rows .now) in
     (omega arith, e .0, refl, omega (arith, ap length (e .1)), ap (sets (a .out .now) 0) (e .1))
 
 add-end : tie.Need-add-end Inv-loop μ-loop
 add-end c =
     let b = c .before in
     let a = b .before .before .before .args in
-    omega (arith, one-row (a .ticks) (b .loop .t) (omega arith) (a .width))
+    omega (arith, one-row (a .ticks .0) (b .loop .t) (omega arith) (a .width))
 
 put-requires : tie.Need-put-requires Inv-loop μ-loop
 put-requires c κs = tt
@@ -66,14 +66,14 @@ part-put-fields-end : tie.Need-part-put-fields-end Inv-loop μ-loop
 part-put-fields-end c =
     let b = c .before .before .before .before .before .before in
     let a = b .before .before .before .args in
-    omega (arith, one-row (a .ticks) (b .loop .t) (omega arith) (a .width))
+    omega (arith, one-row (a .ticks .0) (b .loop .t) (omega arith) (a .width))
 
 put-fields-requires : tie.Need-put-fields-requires Inv-loop μ-loop
 put-fields-requires c κs =
     let p = c .before .before .before .before .put in
     let b = c .before .before .before .before .before .before .before in
     let a = b .before .before .before .args in
-    let more = first-line-length (a .ticks) (b .loop .t) (omega arith) (a .rows .now) (a .width) (b .loop .at) in
+    let more = first-line-length (a .ticks .0) (b .loop .t) (omega arith) (a .rows .now) (a .width) (b .loop .at) in
     let fit = put-fits (b .loop .out) (b .loop .place) (decimalOf (b .loop .t)) (omega arith) in
     omega (arith, p .ensures .0, fit .1)
 
@@ -103,12 +103,12 @@ loop-again c =
     let a = b .before .before .before .args in
     let f = c .before .before .put-fields in
     let put = row-put c in
-    let more = first-line-length (a .ticks) (b .loop .t) (omega arith) (a .rows .now) (a .width) (b .loop .at) in (
+    let more = first-line-length (a .ticks .0) (b .loop .t) (omega arith) (a .rows .now) (a .width) (b .loop .at) in (
       omega arith,
-      omega (arith, one-row (a .ticks) (b .loop .t) (omega arith) (a .width)),
+      omega (arith, one-row (a .ticks .0) (b .loop .t) (omega arith) (a .width)),
       length-set (set (f .last .0) (f .result) 13) (f .result + 1) 10 ∙ length-set (f .last .0) (f .result) 13 ∙ put .2 ∙ b .loop .inv .2,
       omega (arith, put .0),
-      rw (put .1, put .0) (put-first-line (a .ticks) (b .loop .t) (omega arith) (a .rows .now) (a .width) (b .loop .at) (b .loop .out) (b .loop .place)) ∙ b .loop .inv .4,
+      rw (put .1, put .0) (put-first-line (a .ticks .0) (b .loop .t) (omega arith) (a .rows .now) (a .width) (b .loop .at) (b .loop .out) (b .loop .place)) ∙ b .loop .inv .4,
     )
 
 same-length : tie.Need-same-length Inv-loop μ-loop
@@ -118,7 +118,7 @@ returns : tie.Need-returns Inv-loop μ-loop
 returns c =
     let b = c .before in
     let a = b .before .before .before .args in
-    let none = no-line (a .width) (a .ticks) (b .loop .t) (drop (b .loop .at) (a .rows .now)) (c .loop-test .left) in
+    let none = no-line (a .width) (a .ticks .0) (b .loop .t) (drop (b .loop .at) (a .rows .now)) (c .loop-test .left) in
     (omega (arith, ap length none), sym (ap (sets (b .loop .out) (b .loop .place)) none) ∙ b .loop .inv .4)
 
 pub put-rows-spec : {M : Type 1} → statement M

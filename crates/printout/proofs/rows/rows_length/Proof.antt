@@ -9,22 +9,22 @@ use Rattle.printout.proofs.rows.rows_length.Statement.{statement}
 use Rattle.printout.proofs.rows.rows_length.Tie as tie
 
 abbrev Inv-loop : tie.InvT-loop
-Inv-loop rows width ticks bytes₀ at₀ t₀ bytes at t = (t ≤ ticks) × (at + (ticks - t) * width ≡ ticks * width) × (bytes + length (rowLines width (ticks - t) t (drop at rows)) ≡ length (rowLines width ticks 0 rows))
+Inv-loop rows width bytes₀ at₀ all t₀ bytes at t = (t ≤ all) × (at + (all - t) * width ≡ all * width) × (bytes + length (rowLines width (all - t) t (drop at rows)) ≡ length (rowLines width all 0 rows))
 
 abbrev μ-loop : tie.MeasureT-loop
-μ-loop rows width ticks bytes₀ at₀ t₀ bytes at t = ticks - t
+μ-loop rows width bytes₀ at₀ all t₀ bytes at t = all - t
 
 loop-holds : tie.Need-loop-holds Inv-loop μ-loop
 loop-holds c =
     let a = c .before .args in
-    let e = all-left (a .width) (a .ticks) (a .rows .now) in
+    let e = all-left (a .width) (a .ticks .0) (a .rows .now) in
     (omega arith, e .0, omega (arith, ap length (e .1)))
 
 add-end : tie.Need-add-end Inv-loop μ-loop
 add-end c =
     let b = c .before in
     let a = b .before .before .args in
-    omega (arith, one-row (a .ticks) (b .loop .t) (omega arith) (a .width))
+    omega (arith, one-row (a .ticks .0) (b .loop .t) (omega arith) (a .width))
 
 width-requires : tie.Need-width-requires Inv-loop μ-loop
 width-requires c κs = tt
@@ -42,7 +42,7 @@ part-fields-length-end : tie.Need-part-fields-length-end Inv-loop μ-loop
 part-fields-length-end c =
     let b = c .before .before in
     let a = b .before .before .args in
-    omega (arith, one-row (a .ticks) (b .loop .t) (omega arith) (a .width))
+    omega (arith, one-row (a .ticks .0) (b .loop .t) (omega arith) (a .width))
 
 fields-length-requires : tie.Need-fields-length-requires Inv-loop μ-loop
 fields-length-requires c κs =
@@ -54,19 +54,19 @@ add-bytes : tie.Need-add-bytes Inv-loop μ-loop
 add-bytes c =
     let b = c .before .before .before .before in
     let a = b .before .before .args in
-    omega (arith, first-line-length (a .ticks) (b .loop .t) (omega arith) (a .rows .now) (a .width) (b .loop .at), lines-few (a .width) (a .ticks) 0 (a .rows .now) (omega arith))
+    omega (arith, first-line-length (a .ticks .0) (b .loop .t) (omega arith) (a .rows .now) (a .width) (b .loop .at), lines-few (a .width) (a .ticks .0) 0 (a .rows .now) (omega arith))
 
 add-bytes-2 : tie.Need-add-bytes-2 Inv-loop μ-loop
 add-bytes-2 c =
     let b = c .before .before .before .before in
     let a = b .before .before .args in
-    omega (arith, first-line-length (a .ticks) (b .loop .t) (omega arith) (a .rows .now) (a .width) (b .loop .at), lines-few (a .width) (a .ticks) 0 (a .rows .now) (omega arith))
+    omega (arith, first-line-length (a .ticks .0) (b .loop .t) (omega arith) (a .rows .now) (a .width) (b .loop .at), lines-few (a .width) (a .ticks .0) 0 (a .rows .now) (omega arith))
 
 add-bytes-3 : tie.Need-add-bytes-3 Inv-loop μ-loop
 add-bytes-3 c =
     let b = c .before .before .before .before in
     let a = b .before .before .args in
-    omega (arith, first-line-length (a .ticks) (b .loop .t) (omega arith) (a .rows .now) (a .width) (b .loop .at), lines-few (a .width) (a .ticks) 0 (a .rows .now) (omega arith))
+    omega (arith, first-line-length (a .ticks .0) (b .loop .t) (omega arith) (a .rows .now) (a .width) (b .loop .at), lines-few (a .width) (a .ticks .0) 0 (a .rows .now) (omega arith))
 
 add-t : tie.Need-add-t Inv-loop μ-loop
 add-t c = omega arith
@@ -79,15 +79,15 @@ loop-again c =
     let b = c .before .before .before .before in
     let a = b .before .before .args in (
       omega arith,
-      omega (arith, one-row (a .ticks) (b .loop .t) (omega arith) (a .width)),
-      omega (arith, first-line-length (a .ticks) (b .loop .t) (omega arith) (a .rows .now) (a .width) (b .loop .at)),
+      omega (arith, one-row (a .ticks .0) (b .loop .t) (omega arith) (a .width)),
+      omega (arith, first-line-length (a .ticks .0) (b .loop .t) (omega arith) (a .rows .now) (a .width) (b .loop .at)),
     )
 
 returns : tie.Need-returns Inv-loop μ-loop
 returns c =
     let b = c .before in
     let a = b .before .before .args in
-    omega (arith, ap length (no-line (a .width) (a .ticks) (b .loop .t) (drop (b .loop .at) (a .rows .now)) (c .loop-test .left)))
+    omega (arith, ap length (no-line (a .width) (a .ticks .0) (b .loop .t) (drop (b .loop .at) (a .rows .now)) (c .loop-test .left)))
 
 pub rows-length-spec : {M : Type 1} → statement M
 rows-length-spec =

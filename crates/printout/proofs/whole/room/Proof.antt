@@ -14,7 +14,7 @@ use Rattle.printout.proofs.whole.room.Tie as tie
 returns : tie.Need-returns
 returns c =
     let a = c .before .before .args in
-    sym (le-leb (length (linesOf (a .width) (a .ticks) (a .last) (a .rows .now))) (a .places) (omega arith))
+    sym (le-leb (length (linesOf (a .width) (a .ticks .0) (a .last) (a .rows .now))) (a .places) (omega arith))
 
 rows-length-requires : tie.Need-rows-length-requires
 rows-length-requires c κs = search needs
@@ -25,12 +25,12 @@ last-length-requires c κs = search needs
 add-needed : tie.Need-add-needed
 add-needed c =
     let a = c .before .before .before .before .args in
-    omega (arith, lines-length (a .width) (a .ticks) (a .last) (a .rows .now))
+    omega (arith, lines-length (a .width) (a .ticks .0) (a .last) (a .rows .now))
 
 returns-2 : tie.Need-returns-2
 returns-2 c =
     let a = c .before .before .before .before .args in
-    let needed : c .before .rows-length .result + c .last-length .result ≡ length (linesOf (a .width) (a .ticks) (a .last) (a .rows .now)) = omega (arith, lines-length (a .width) (a .ticks) (a .last) (a .rows .now)) in
+    let needed : c .before .rows-length .result + c .last-length .result ≡ length (linesOf (a .width) (a .ticks .0) (a .last) (a .rows .now)) = omega (arith, lines-length (a .width) (a .ticks .0) (a .last) (a .rows .now)) in
     ap (λ (n : ℕ). leb n (a .places)) needed
 
 pub room-spec : {M : Type 1} → statement M

@@ -15,7 +15,7 @@ after-run : (c : tie.After-run-line) → let a = c .before .before .before .befo
 after-run c =
     let a = c .before .before .before .before .before .args in
     let r = c .before .before .before .ends in
-    ap (afterEnds (a .text .now) (a .tasks) (a .speeds)) (sym (r .ensures)) ∙ run-last (a .text .now) (a .tasks) (a .speeds) (r .result) (not-false _ (c .before .if1 .left)) (c .run-line .ensures)
+    ap (afterEnds (a .text .now) (a .tasks) (a .speeds)) (sym (r .ensures)) ∙ run-last (a .text .now) (a .tasks) (a .speeds) (r .result) (c .before .if1 .left) (c .run-line .ensures)
 
 ends-requires : tie.Need-ends-requires
 ends-requires c κs = search needs
@@ -27,7 +27,7 @@ returns : tie.Need-returns
 returns c =
     let a = c .before .before .before .before .before .args in
     let r = c .before .before .before .ends in
-    c .no-run-file .ensures ∙ sym (ap (afterEnds (a .text .now) (a .tasks) (a .speeds)) (sym (r .ensures)) ∙ ends-wrong (a .text .now) (a .tasks) (a .speeds) (r .result) (not-true _ (c .before .if1 .taken)))
+    c .no-run-file .ensures ∙ sym (ap (afterEnds (a .text .now) (a .tasks) (a .speeds)) (sym (r .ensures)) ∙ ends-wrong (a .text .now) (a .tasks) (a .speeds) (r .result) (c .before .if1 .taken))
 
 run-line-requires : tie.Need-run-line-requires
 run-line-requires c κs = search needs
@@ -62,7 +62,7 @@ closes-requires : tie.Need-closes-requires
 closes-requires c κs =
     let r = c .before .before .before .before .before .before .before .before in
     let a = r .before .before .args in
-    few-ends (a .text .now) (a .tasks .count) (a .at) (r .ends .result) (r .ends .ensures) (not-false _ (c .before .before .before .before .before .before .if1 .left))
+    few-ends (a .text .now) (a .tasks .count) (a .at) (r .ends .result) (r .ends .ensures) (c .before .before .before .before .before .before .if1 .left)
 
 no-run-file-requires-4 : tie.Need-no-run-file-requires-4
 no-run-file-requires-4 c κs = search needs

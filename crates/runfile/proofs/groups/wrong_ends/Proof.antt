@@ -12,7 +12,7 @@ no-ends-requires c κs = search needs
 
 returns : tie.Need-returns
 unfolding wrongEnds
-returns c = ap (λ (e : Ends). record { good = false; ends = e; next = 0 }) (c .no-ends .ensures)
+returns c = ap (λ (e : Ends). record { number = 14; ends = e; next = 0 }) (c .no-ends .ensures)
 
 pub wrong-ends-spec : {M : Type 1} → statement M
 wrong-ends-spec = tie.close (tie.spec no-ends-requires returns)

@@ -12,7 +12,7 @@ no-pairs-requires c κs = search needs
 
 returns : tie.Need-returns
 unfolding wrongPairs
-returns c = ap (λ (p : Pairs). record { good = false; pairs = p; next = 0 }) (c .no-pairs .ensures)
+returns c = ap (λ (p : Pairs). record { number = 14; pairs = p; next = 0 }) (c .no-pairs .ensures)
 
 pub wrong-pairs-spec : {M : Type 1} → statement M
 wrong-pairs-spec = tie.close (tie.spec no-pairs-requires returns)
