@@ -19,7 +19,7 @@ use Rattle.runfile.specs.declared.groups.PairsRead.{PairsRead}
 use Rattle.runfile.specs.declared.groups.EndsRead.{EndsRead}
 use Rattle.runfile.specs.declared.RunFile.{RunFile}
 use Rattle.runfile.specs.Groups.{mostTaskLines, mostSpeedLines, mostEndLines, noPairs, noEnds, pairsFrom, endsFrom}
-use Rattle.runfile.specs.RunFile.{mostBytes, mostRunTicks, noRunFile, all, closed, afterEnds, afterSpeeds, afterTasks, runFileOf}
+use Rattle.runfile.specs.RunFile.{mostBytes, mostRunTicks, noRunFile, all, isLast, closed, afterEnds, afterSpeeds, afterTasks, runFileOf}
 use Rattle.runfile.specs.Good.{GoodPairs, GoodEnds, GoodFile}
 use Rattle.runfile.proofs.Splits.{both}
 use Rattle.runfile.proofs.Kept.{group-good}
@@ -47,7 +47,7 @@ module _ (text : List ℕ) (tasks : Pairs) (few : GoodPairs mostTaskLines tasks)
     closed-outcome : (ends : Ends) → GoodEnds (tasks .count) ends → (f : RunLine) → Outcome (closed text tasks speeds ends f)
     unfolding closed
     closed-outcome ends good (Run run next) =
-        judged (eqb next (length text) && leb (run .0) mostRunTicks && all (λ t. ltb t (run .0)) (take (ends .count) (ends .ticks))) _ (λ e. inl (refl, file e))
+        judged (isLast text next && leb (run .0) mostRunTicks && all (λ t. ltb t (run .0)) (take (ends .count) (ends .ticks))) _ (λ e. inl (refl, file e))
       where
         below : all (λ t. ltb t (run .0)) (take (ends .count) (ends .ticks)) ≡ true → (k : ℕ) → k < ends .count → getD (ends .ticks) k 0 < run .0
         below e k h =
@@ -55,15 +55,15 @@ module _ (text : List ℕ) (tasks : Pairs) (few : GoodPairs mostTaskLines tasks)
             let found = all-at (λ t. ltb t (run .0)) (take (ends .count) (ends .ticks)) k e (rw size h) in
             ltb-true (getD (ends .ticks) k 0) (run .0) (rw (getD-take (ends .count) (ends .ticks) k 0 h) at found)
 
-        file : (eqb next (length text) && leb (run .0) mostRunTicks && all (λ t. ltb t (run .0)) (take (ends .count) (ends .ticks))) ≡ true
+        file : (isLast text next && leb (run .0) mostRunTicks && all (λ t. ltb t (run .0)) (take (ends .count) (ends .ticks))) ≡ true
             → GoodFile (record { number = 0; tasks = tasks; speeds = speeds; ends = ends; ticks = run })
         file e =
-            let parts = both (eqb next (length text) && leb (run .0) mostRunTicks) (all (λ t. ltb t (run .0)) (take (ends .count) (ends .ticks))) e in
+            let parts = both (isLast text next && leb (run .0) mostRunTicks) (all (λ t. ltb t (run .0)) (take (ends .count) (ends .ticks))) e in
             record {
               tasks = few;
               speeds = fast;
               ends = good;
-              ticks = leb-true (run .0) mostRunTicks (both (eqb next (length text)) (leb (run .0) mostRunTicks) (parts .0) .1);
+              ticks = leb-true (run .0) mostRunTicks (both (isLast text next) (leb (run .0) mostRunTicks) (parts .0) .1);
               below = below (parts .1);
             }
     closed-outcome ends good WrongRun = inr refl

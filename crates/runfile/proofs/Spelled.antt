@@ -23,7 +23,7 @@ use Rattle.runfile.specs.declared.groups.PairsRead.{PairsRead}
 use Rattle.runfile.specs.declared.groups.EndsRead.{EndsRead}
 use Rattle.runfile.specs.declared.RunFile.{RunFile}
 use Rattle.runfile.specs.Groups.{mostTaskLines, mostSpeedLines, mostEndLines, noPairs, noEnds, pairsRead, pairsFrom, endsRead}
-use Rattle.runfile.specs.RunFile.{mostBytes, mostRunTicks, noRunFile, all, closed, afterEnds, afterSpeeds, afterTasks, runFileOf}
+use Rattle.runfile.specs.RunFile.{mostBytes, mostRunTicks, noRunFile, all, isLast, closed, afterEnds, afterSpeeds, afterTasks, runFileOf}
 use Rattle.runfile.specs.Spelled.{TwoLine, ThreeLine, twoLines, endLines, spelling, pairsLaid, endsLaid, fileOf, endsRise, ticksOf, Spelled}
 use Rattle.runfile.proofs.Splits.{both}
 use Rattle.runfile.proofs.Stages.{tasks-first, speeds-next, ends-next, run-last, all-closed}
@@ -168,12 +168,12 @@ module _ (text : List ℕ) (size : length text ≤ mostBytes) where
 
         -- the run line decides
         closed-back : (f : RunLine) → runAt text three ≡ f → closed text p q e f .number ≡ 0 → Spelled text (closed text p q e f)
-        unfolding closed
+        unfolding closed isLast
         closed-back (Run run next) h =
-            judged (eqb next (length text) && leb (run .0) mostRunTicks && all (λ t. ltb t (run .0)) (take (e .count) (e .ticks))) _
+            judged (isLast text next && leb (run .0) mostRunTicks && all (λ t. ltb t (run .0)) (take (e .count) (e .ticks))) _
             (λ ok _.
-            let parts = both (eqb next (length text) && leb (run .0) mostRunTicks) (all (λ t. ltb t (run .0)) (take (e .count) (e .ticks))) ok in
-            let ends = both (eqb next (length text)) (leb (run .0) mostRunTicks) (parts .0) in
+            let parts = both (isLast text next && leb (run .0) mostRunTicks) (all (λ t. ltb t (run .0)) (take (e .count) (e .ticks))) ok in
+            let ends = both (isLast text next) (leb (run .0) mostRunTicks) (parts .0) in
             whole run (h ∙ ap (Run run) (eqb-true next (length text) (ends .0))) (leb-true (run .0) mostRunTicks (ends .1)) (parts .1))
         closed-back WrongRun h = λ bad. absurd (refused bad)
 

@@ -15,7 +15,7 @@ use Rattle.runfile.specs.declared.Ends.{Ends}
 use Rattle.runfile.specs.declared.groups.PairsRead.{PairsRead}
 use Rattle.runfile.specs.declared.groups.EndsRead.{EndsRead}
 use Rattle.runfile.specs.Groups.{mostTaskLines, mostSpeedLines, mostEndLines, noPairs, noEnds, pairsFrom, endsFrom}
-use Rattle.runfile.specs.RunFile.{mostBytes, mostRunTicks, noRunFile, all, closed, afterEnds, afterSpeeds, afterTasks, runFileOf}
+use Rattle.runfile.specs.RunFile.{mostBytes, mostRunTicks, noRunFile, all, isLast, closed, afterEnds, afterSpeeds, afterTasks, runFileOf}
 
 -- more bytes than a run file may have
 pub too-large : (text : List ℕ) → mostBytes < length text → runFileOf text ≡ noRunFile
@@ -68,13 +68,13 @@ module _ (text : List ℕ) (tasks speeds : Pairs) where
     module _ {run : Ticks} {next : ℕ} (h : f ≡ Run run next) where
       -- bytes follow the run line
       pub not-last : (next ≡ length text → ⊥) → closed text tasks speeds ends f ≡ noRunFile
-      unfolding closed
+      unfolding closed isLast
       not-last k = ap (closed text tasks speeds ends) h ∙ rw (ne-eqb next (length text) k)
 
       -- the run line is last, and its ticks decide with those of the end lines
       closing : next ≡ length text → {t : Bool} → t ≡ leb (run .0) mostRunTicks && all (λ x. ltb x (run .0)) (take (ends .count) (ends .ticks))
           → closed text tasks speeds ends f ≡ cond t (record { number = 0; tasks = tasks; speeds = speeds; ends = ends; ticks = run }) noRunFile
-      unfolding closed
+      unfolding closed isLast
       closing k e = ap (closed text tasks speeds ends) h ∙ rw (eq-eqb next (length text) k, e)
 
       -- too many ticks, or an end line's tick not below them

@@ -31,10 +31,14 @@ unfoldable pub all : (ℕ → Bool) → List ℕ → Bool
 all p [] = Bool.true
 all p (x ∷ xs) = p x && all p xs
 
--- "one run line .. last", and end lines name "a tick below the run's"
+-- "one run line .. last": nothing follows it
+unfoldable pub isLast : List ℕ → ℕ → Bool
+isLast text next = eqb next (length text)
+
+-- the run line is last, its ticks are "0 to 10,000", and end lines name "a tick below the run's"
 unfoldable pub closed : List ℕ → Pairs → Pairs → Ends → RunLine → RunFile
 closed text tasks speeds ends (Run run next) =
-    cond (eqb next (length text) && leb (run .0) mostRunTicks && all (λ t. ltb t (run .0)) (take (ends .count) (ends .ticks)))
+    cond (isLast text next && leb (run .0) mostRunTicks && all (λ t. ltb t (run .0)) (take (ends .count) (ends .ticks)))
     (record { number = 0; tasks = tasks; speeds = speeds; ends = ends; ticks = run })
     noRunFile
 closed text tasks speeds ends WrongRun = noRunFile

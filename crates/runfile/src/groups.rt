@@ -4,7 +4,7 @@ ghost use mathlib.Core.Bool.{_&&_};
 ghost use Prim.Native.Nat.{_≤_};
 ghost use lib.Dec.{leb, ltb};
 ghost use lib.ListN.{take};
-ghost use Rattle.runfile.specs.Groups.{noPairs, noEnds, pairsFrom, endsFrom, endGood, wrongPairs, wrongEnds};
+ghost use Rattle.runfile.specs.Groups.{mostTaskLines, mostEndLines, noPairs, noEnds, pairsFrom, endsFrom, endGood, wrongPairs, wrongEnds};
 ghost use Rattle.runfile.specs.RunFile.{noRunFile, all, mostRunTicks, afterEnds};
 use crate::Ends;
 use crate::Pairs;
@@ -31,7 +31,7 @@ pub(crate) struct EndsRead {
 
 // Task lines or speed lines from a place on: as long as a line begins with the word, its two numbers.
 pub(crate) fn pairs(text: &[u8], at: usize, word: &[u8], most: usize) -> PairsRead
-    requires { ⌜ most ≤ 16 ⌝ }
+    requires { ⌜ most ≤ mostTaskLines ⌝ }
     ensures { λ r. ⌜ r ≡ pairsFrom (now (word .entry)) (now (text .entry)) most at noPairs ⌝ }
 {
     let mut sofar = no_pairs();
@@ -63,7 +63,7 @@ pub(crate) fn pairs(text: &[u8], at: usize, word: &[u8], most: usize) -> PairsRe
 
 // End lines from a place on, for so many tasks: they rise strictly by tick and then task, name a task that exists and at least 1 cycle.
 pub(crate) fn ends(text: &[u8], at: usize, known: usize) -> EndsRead
-    ensures { λ r. ⌜ r ≡ endsFrom (now (text .entry)) known 1000 at 0 0 noEnds ⌝ }
+    ensures { λ r. ⌜ r ≡ endsFrom (now (text .entry)) known mostEndLines at 0 0 noEnds ⌝ }
 {
     let mut sofar = no_ends();
     let mut next = at;
@@ -103,7 +103,7 @@ pub(crate) fn ends(text: &[u8], at: usize, known: usize) -> EndsRead
 
 // The end lines and the run line, after the task lines and the speed lines. A field that is no number ends the reading there.
 pub(crate) fn last_lines(text: &[u8], at: usize, tasks: Pairs, speeds: Pairs) -> RunFile
-    ensures { λ r. ⌜ r ≡ afterEnds (now (text .entry)) tasks speeds (endsFrom (now (text .entry)) (tasks .count) 1000 at 0 0 noEnds) ⌝ }
+    ensures { λ r. ⌜ r ≡ afterEnds (now (text .entry)) tasks speeds (endsFrom (now (text .entry)) (tasks .count) mostEndLines at 0 0 noEnds) ⌝ }
 {
     let read = ends(text, at, tasks.count);
     if read.number != 0 {
@@ -158,7 +158,7 @@ pub(crate) fn good_end(
 
 // Whether the run line's ticks are at most 10,000 and every end line's tick is below them.
 pub(crate) fn closes(ends: Ends, run: Ticks) -> bool
-    requires { ⌜ ends .count ≤ 1000 ⌝ }
+    requires { ⌜ ends .count ≤ mostEndLines ⌝ }
     ensures { λ r. ⌜ r ≡ (leb (run .0) mostRunTicks && all (λ t. ltb t (run .0)) (take (ends .count) (ends .ticks))) ⌝ }
 {
     if run.0 > 10000 {

@@ -7,17 +7,17 @@ use borrow.Author.Tests.{not-true, not-false}
 use lib.ListN.{length}
 use Rattle.words.proofs.Begins.{stands-within}
 use Rattle.lines.specs.Lines.{endWord}
-use Rattle.runfile.specs.Groups.{noEnds, moreEnds, endsRead, endsFrom}
+use Rattle.runfile.specs.Groups.{mostEndLines, noEnds, moreEnds, endsRead, endsFrom}
 use Rattle.runfile.proofs.Ending.{lines-begin, lines-end, end-too-many, end-wrong, end-not-good, end-taken}
 use Rattle.runfile.proofs.groups.ends.Statement.{statement}
 use Rattle.runfile.proofs.groups.ends.Tie as tie
 
 abbrev Inv-loop : tie.InvT-loop
 Inv-loop text at known sofar₀ next₀ tick-before₀ task-before₀ t13 sofar next tick-before task-before =
-    (sofar .count ≤ 1000) × (endsFrom text known 1000 at 0 0 noEnds ≡ endsFrom text known (1000 - sofar .count) next (tick-before .0) task-before sofar)
+    (sofar .count ≤ mostEndLines) × (endsFrom text known mostEndLines at 0 0 noEnds ≡ endsFrom text known (mostEndLines - sofar .count) next (tick-before .0) task-before sofar)
 
 abbrev μ-loop : tie.MeasureT-loop
-μ-loop text at known sofar₀ next₀ tick-before₀ task-before₀ t13 sofar next tick-before task-before = 1000 - sofar .count
+μ-loop text at known sofar₀ next₀ tick-before₀ task-before₀ t13 sofar next tick-before task-before = mostEndLines - sofar .count
 
 no-ends-requires : tie.Need-no-ends-requires Inv-loop μ-loop
 no-ends-requires c κs = search needs
@@ -25,7 +25,7 @@ no-ends-requires c κs = search needs
 loop-holds : tie.Need-loop-holds Inv-loop μ-loop
 loop-holds c =
     let a = c .before .before .args in
-    lines-begin (a .text .now) (a .known) 1000 (a .at) (c .no-ends .result) (c .no-ends .ensures)
+    lines-begin (a .text .now) (a .known) mostEndLines (a .at) (c .no-ends .result) (c .no-ends .ensures)
 
 slice-aggregate-stands : tie.Need-slice-aggregate-stands Inv-loop μ-loop
 slice-aggregate-stands c = search needs
@@ -43,7 +43,7 @@ returns c =
     let a = l .before .before .before .args in
     let s = l .loop in
     let e = sym (c .before .before .before .stands .ensures) ∙ c .before .before .if1 .taken in
-    c .wrong-ends .ensures ∙ sym (s .inv .1 ∙ end-too-many (a .text .now) (a .known) (s .next) (s .tick-before .0) (s .task-before) (s .sofar) 1000 (s .sofar .count) (c .before .if2 .taken) e)
+    c .wrong-ends .ensures ∙ sym (s .inv .1 ∙ end-too-many (a .text .now) (a .known) (s .next) (s .tick-before .0) (s .task-before) (s .sofar) mostEndLines (s .sofar .count) (c .before .if2 .taken) e)
 
 add-end-line : tie.Need-add-end-line Inv-loop μ-loop
 unfolding endWord
@@ -73,7 +73,7 @@ returns-2 c =
     let a = l .before .before .before .args in
     let s = l .loop in
     let e = sym (c .before .before .before .before .before .before .stands .ensures) ∙ c .before .before .before .before .before .if1 .taken in
-    c .wrong-ends2 .ensures ∙ sym (s .inv .1 ∙ end-wrong (a .text .now) (a .known) (s .next) (s .tick-before .0) (s .task-before) (s .sofar) e (c .before .before .before .end-line .ensures) (1000 - s .sofar .count) (c .before .enum-told .given .1))
+    c .wrong-ends2 .ensures ∙ sym (s .inv .1 ∙ end-wrong (a .text .now) (a .known) (s .next) (s .tick-before .0) (s .task-before) (s .sofar) e (c .before .before .before .end-line .ensures) (mostEndLines - s .sofar .count) (c .before .enum-told .given .1))
 
 good-end-requires : tie.Need-good-end-requires Inv-loop μ-loop
 good-end-requires c κs = search needs
@@ -88,7 +88,7 @@ returns-3 c =
     let a = l .before .before .before .args in
     let s = l .loop in
     let e = sym (c .before .before .before .before .before .before .before .before .before .stands .ensures) ∙ c .before .before .before .before .before .before .before .before .if1 .taken in
-    c .wrong-ends3 .ensures ∙ sym (s .inv .1 ∙ end-not-good (a .text .now) (a .known) (s .next) (s .tick-before .0) (s .task-before) (s .sofar) e (c .before .before .before .before .before .before .end-line .ensures) (c .before .before .before .before .tick .given .1) (1000 - s .sofar .count) (c .before .before .good-end .ensures) (not-true _ (c .before .if3 .taken)))
+    c .wrong-ends3 .ensures ∙ sym (s .inv .1 ∙ end-not-good (a .text .now) (a .known) (s .next) (s .tick-before .0) (s .task-before) (s .sofar) e (c .before .before .before .before .before .before .end-line .ensures) (c .before .before .before .before .tick .given .1) (mostEndLines - s .sofar .count) (c .before .before .good-end .ensures) (not-true _ (c .before .if3 .taken)))
 
 mul-sofar : tie.Need-mul-sofar Inv-loop μ-loop
 mul-sofar c = search needs
@@ -122,7 +122,7 @@ loop-again c =
     let s = l .loop in
     let e = sym (c .before .before .before .before .before .before .before .before .stands .ensures) ∙ c .before .before .before .before .before .before .before .if1 .taken in (
       omega arith,
-      s .inv .1 ∙ end-taken (a .text .now) (a .known) (s .next) (s .tick-before .0) (s .task-before) (s .sofar) e (c .before .before .before .before .before .end-line .ensures) (c .before .before .before .tick .given .1) 1000 (s .sofar .count) (c .before .before .before .before .before .before .if2 .left) (c .before .good-end .ensures) (not-false _ (c .if3 .left)),
+      s .inv .1 ∙ end-taken (a .text .now) (a .known) (s .next) (s .tick-before .0) (s .task-before) (s .sofar) e (c .before .before .before .before .before .end-line .ensures) (c .before .before .before .tick .given .1) mostEndLines (s .sofar .count) (c .before .before .before .before .before .before .if2 .left) (c .before .good-end .ensures) (not-false _ (c .if3 .left)),
     )
 
 returns-4 : tie.Need-returns-4 Inv-loop μ-loop
@@ -131,7 +131,7 @@ returns-4 c =
     let l = c .before .before .before in
     let a = l .before .before .before .args in
     let s = l .loop in
-    sym (s .inv .1 ∙ lines-end (a .text .now) (a .known) (s .next) (s .tick-before .0) (s .task-before) (s .sofar) (1000 - s .sofar .count) (sym (c .before .stands .ensures) ∙ c .if1 .left))
+    sym (s .inv .1 ∙ lines-end (a .text .now) (a .known) (s .next) (s .tick-before .0) (s .task-before) (s .sofar) (mostEndLines - s .sofar .count) (sym (c .before .stands .ensures) ∙ c .if1 .left))
 
 pub ends-spec : {M : Type 1} → statement M
 ends-spec =

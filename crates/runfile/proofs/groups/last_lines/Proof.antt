@@ -2,7 +2,7 @@
 use mathlib.Core.Path.{_≡_, sym, ap, _∙_}
 use borrow.Author.Tests.{not-true, not-false}
 use borrow.Author.Needs.{needs}
-use Rattle.runfile.specs.Groups.{noEnds, endsFrom}
+use Rattle.runfile.specs.Groups.{mostEndLines, noEnds, endsFrom}
 use Rattle.runfile.specs.RunFile.{closed, afterEnds}
 use Rattle.runfile.proofs.Risen.{few-ends}
 use Rattle.runfile.proofs.Stages.{ends-wrong, run-last, run-wrong, not-last, not-closed, all-closed}
@@ -11,7 +11,7 @@ use Rattle.runfile.proofs.groups.last_lines.Tie as tie
 
 -- the last lines, once the end lines and the run line were read
 after-run : (c : tie.After-run-line) → let a = c .before .before .before .before .before .args in
-    afterEnds (a .text .now) (a .tasks) (a .speeds) (endsFrom (a .text .now) (a .tasks .count) 1000 (a .at) 0 0 noEnds) ≡ closed (a .text .now) (a .tasks) (a .speeds) (c .before .before .before .ends .result .ends) (c .run-line .result)
+    afterEnds (a .text .now) (a .tasks) (a .speeds) (endsFrom (a .text .now) (a .tasks .count) mostEndLines (a .at) 0 0 noEnds) ≡ closed (a .text .now) (a .tasks) (a .speeds) (c .before .before .before .ends .result .ends) (c .run-line .result)
 after-run c =
     let a = c .before .before .before .before .before .args in
     let r = c .before .before .before .ends in
