@@ -44,6 +44,11 @@ load-full great (suc n) job e =
 pub term-most : (c great p : ℕ) → c ≤ mostReserve → great ≤ mostGreat → c * (great / p) ≤ mostTerm
 term-most c great p few small = mul-le-mul few (le-trans (div-le-self great p) small)
 
+-- the speed at the place that is chosen, where it is one of the list, carries the load in numbers
+pub place-enough : (s : State) → speedPlace s < length (speedsOf (s .ladder)) → loadOf s ≤ speedOf s * s .tasks .great .0
+unfolding fitsOf carries speedOf speedPlace
+place-enough s h = leb-true (loadOf s) (speedOf s * s .tasks .great .0) (lowest-fits (fitsOf s) (speedsOf (s .ladder)) h)
+
 module _ (s : State) (f : Sound s) where
   pub load-most-full : loadOf s ≤ fullLoad (s .tasks .great .0) (periodsOf (s .tasks)) (reservesOf (s .tasks))
   unfolding loadOf jobsOf periodsOf reservesOf jobAt periodAt reserveAt
@@ -73,14 +78,9 @@ module _ (s : State) (f : Sound s) where
   unfolding noneCarries speedPlace
   some-carries = below-some (fitsOf s) (speedsOf (s .ladder)) place-in
 
-  pub speed-carries : fitsOf s (speedOf s) ≡ true
-  unfolding speedOf speedPlace
-  speed-carries = lowest-fits (fitsOf s) (speedsOf (s .ladder)) place-in
-
-  -- so the speed answered carries the load in numbers,
+  -- so the speed answered carries the load,
   pub speed-enough : loadOf s ≤ speedOf s * s .tasks .great .0
-  unfolding fitsOf carries
-  speed-enough = leb-true (loadOf s) (speedOf s * s .tasks .great .0) speed-carries
+  speed-enough = place-enough s place-in
 
   -- and no speed listed before it does
   pub lower-short : (i : ℕ) → i < speedPlace s → getD (speedsOf (s .ladder)) i 0 * s .tasks .great .0 < loadOf s
