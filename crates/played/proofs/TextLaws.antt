@@ -24,7 +24,8 @@ use Rattle.player.specs.Plays.{Play, endsIn, ended, playFrom, startIn, playFile
 use Rattle.player.specs.Rows.{rowsOf, enough}
 use Rattle.played.specs.Promised.{PlaysOn, PlayRight, OfTheBench, mostPlaces}
 use Rattle.played.proofs.PlayLaws.{plays-on}
-use Rattle.played.proofs.StartLaws.{start-most, start-refused, start-is-sound, start-is-shaped, start-done, start-counted, start-idle}
+use Rattle.rules.proofs.CallRows.{start-none}
+use Rattle.played.proofs.StartLaws.{start-most, start-is-sound, start-is-shaped, start-done, start-counted, start-idle}
 
 -- a text, by whether it is a run file and whether start takes its table
 module _ (text : List ℕ) where
@@ -39,7 +40,7 @@ module _ (text : List ℕ) where
   -- a refused start: its number before a tick
   not-started : file .number ≡ 0 → (startIn file .number ≡ 0 → ⊥) → playOf text ≡ ended (startIn file .number) zeroState
   unfolding playOf playFile
-  not-started e n = rw (e, ne-eqb (startIn file .number) 0 n, start-refused _ _ _ _ n)
+  not-started e n = rw (e, ne-eqb (startIn file .number) 0 n, start-none _ _ _ _ n)
 
   -- an accepted start: its ticks from the fresh state on
   pub text-played : file .number ≡ 0 → startIn file .number ≡ 0 → playOf text ≡ playFrom (endsIn file) (file .ticks .0) (startIn file .state)

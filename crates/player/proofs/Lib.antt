@@ -1,4 +1,3 @@
-pub mod Sums
 pub mod Entries
 pub mod Begins
 pub mod Shared

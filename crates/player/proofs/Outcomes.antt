@@ -1,6 +1,5 @@
 -- What play answers in each of its cases, over plain values: a text that is no run file, a start that refuses, no room, and a run played. By the tests that its definition makes.
 use mathlib.Core.Path.{_≡_, sym, ap, subst, _∙_}
-use mathlib.Core.Bool.{true, false, cond}
 use mathlib.Core.List.{List}
 use Prim.Native.Nat.{ℕ, _+_, _-_, _*_, _≤_, _<_}
 use native.Mathlib.Nat.{mul-le-mul}
@@ -8,13 +7,13 @@ use native.Mathlib.Omega.{arith}
 use borrow.Author.Tests.{ne-eqb, le-leb, lt-leb}
 use mir.Syntax.{w64}
 use mir.Val.{Fits}
-use lib.Dec.{eqb}
 use lib.ListN.{length, take}
 use lib.Seq.{sets, length-take-le}
 use Rattle.rules.specs.declared.Started.{Started}
 use Rattle.rules.specs.declared.State.{State}
 use Rattle.rules.specs.Admission.{greatOf}
 use Rattle.rules.specs.Calls.{tasksFrom, ladderFrom, freshState, zeroState, startOf}
+use Rattle.rules.proofs.CallRows.{start-none, start-is}
 use Rattle.runfile.specs.declared.RunFile.{RunFile}
 use Rattle.runfile.specs.RunFile.{runFileOf}
 use Rattle.runfile.specs.Good.{GoodEnds, GoodFile}
@@ -27,21 +26,19 @@ use Rattle.player.specs.Parts.{unplayedAs, playedAs, Runnable}
 
 -- start's answer: refused, the all-zero state; accepted, the table at tick 0
 module _ (ps cs ss vs : List ℕ) (r : Started) (told : r ≡ startOf ps cs ss vs) where
-  start-refused : (r .number ≡ 0 → ⊥) → r .state ≡ zeroState
-  unfolding startOf
-  start-refused z = ap (λ (x : Started). x .state) told ∙ ap (λ n. cond (eqb n 0) (freshState (tasksFrom (greatOf ps) ps cs) (ladderFrom ss vs)) zeroState) (sym (ap (λ (x : Started). x .number) told)) ∙ rw (ne-eqb (r .number) 0 z)
+  refused : (r .number ≡ 0 → ⊥) → r .state ≡ zeroState
+  refused z = rw told (start-none ps cs ss vs (rw told at z))
 
-  start-accepted : r .number ≡ 0 → r .state ≡ freshState (tasksFrom (greatOf ps) ps cs) (ladderFrom ss vs)
-  unfolding startOf
-  start-accepted e = ap (λ (x : Started). x .state) told ∙ ap (λ n. cond (eqb n 0) (freshState (tasksFrom (greatOf ps) ps cs) (ladderFrom ss vs)) zeroState) (sym (ap (λ (x : Started). x .number) told) ∙ e)
+  accepted : r .number ≡ 0 → r .state ≡ freshState (tasksFrom (greatOf ps) ps cs) (ladderFrom ss vs)
+  accepted e = rw told (start-is ps cs ss vs (rw told at e))
 
   start-count : r .number ≡ 0 → r .state .tasks .count ≡ length ps
   unfolding freshState tasksFrom
-  start-count e = ap (λ (s : State). s .tasks .count) (start-accepted e)
+  start-count e = ap (λ (s : State). s .tasks .count) (accepted e)
 
   start-done : r .number ≡ 0 → r .state .done .0 ≡ 0
   unfolding freshState
-  start-done e = ap (λ (s : State). s .done .0) (start-accepted e)
+  start-done e = ap (λ (s : State). s .done .0) (accepted e)
 
 -- a text, the run file that was read from it, and a list of rows
 module _ (text : List ℕ) (f : RunFile) (read : f ≡ runFileOf text) (rows : List ℕ) where
@@ -67,7 +64,7 @@ module _ (text : List ℕ) (f : RunFile) (read : f ≡ runFileOf text) (rows : L
       pub no-start : (r .number ≡ 0 → ⊥) → (unplayedAs (Ended (r .number)) ≡ playedOf text (length rows)) × (rows ≡ rowsIn text rows)
       unfolding unplayedAs playedOf rowsIn enough playOf playFile ended rowsOf
       no-start z =
-          let none = start-refused _ _ _ _ r told z in
+          let none = refused _ _ _ _ r told z in
           (rw (← read, e, ← told-so, ne-eqb (r .number) 0 z, none), rw (← read, e, ← told-so, ne-eqb (r .number) 0 z))
 
       -- accepted, without room for its rows

@@ -1,6 +1,6 @@
 -- A run as rows of numbers in a lent list: for each tick its speed, the grants of tasks 1 to n and the idle cycles.
 use Prim.Native.Nat.{ℕ, _+_, _*_}
-use mathlib.Core.Bool.{Bool, true, false, cond, _||_, not}
+use mathlib.Core.Bool.{Bool, cond, _||_, not}
 use mathlib.Core.List.{List, [], _∷_, _++_}
 use lib.Dec.{eqb, leb}
 use lib.ListN.{length}

@@ -7,14 +7,13 @@ use native.Mathlib.Nat.{mul-le-mul, sub-zero}
 use native.Mathlib.Omega.{arith}
 use borrow.Author.Tests.{eq-eqb, ne-eqb}
 use lib.Dec.{eqb}
-use lib.ListN.{length, getD, take, drop, drop-of-length-le}
+use lib.ListN.{length, take}
 use lib.Seq.{sets}
 use Rattle.units.specs.declared.Cycles.{Cycles}
 use Rattle.units.specs.Units.{cycles}
 use Rattle.rules.specs.declared.State.{State}
 use Rattle.rules.specs.Words.{total}
 use Rattle.rules.specs.Numbers.{sound}
-use Rattle.rules.proofs.Lists.{rest-cons}
 use Rattle.rules.proofs.Soundness.{Sound, sound-facts}
 use Rattle.rules.proofs.Loads.{top-limit}
 use Rattle.words.specs.Words.{putIn, placeAfter}
@@ -27,17 +26,6 @@ use Rattle.printout.proofs.Fields.{line-length, put-line}
 -- all the cycles of a list
 abbrev pub cyclesOf : List Cycles → ℕ
 cyclesOf l = total (λ (c : Cycles). c .0) l
-
-module _ (l : List Cycles) (i : ℕ) where
-  -- the first count left and the rest
-  pub first-count : i < length l → cyclesOf (drop i l) ≡ getD l i (cycles 0) .0 + cyclesOf (drop (i + 1) l)
-  unfolding total
-  first-count h = rw (rest-cons l (cycles 0) i h)
-
-  -- past the last count there is none
-  pub no-count : length l ≤ i → cyclesOf (drop i l) ≡ 0
-  unfolding total
-  no-count h = rw (drop-of-length-le l {i = i} h)
 
 -- the counts of a sound state fit 64 bits: they are at most the cycles of all its ticks at the top speed
 pub can-sum : (s : State) → sound s ≡ true → cyclesOf (s .tally .counts) < 2 ^ 64

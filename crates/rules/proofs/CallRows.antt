@@ -1,5 +1,5 @@
 -- The answers of start by its number, and the rows of now, tick and energy: what each number answers, and what 0 says of all tests.
-use mathlib.Core.Path.{_≡_, sym, ap}
+use mathlib.Core.Path.{_≡_, refl, sym, ap}
 use mathlib.Core.Bool.{true, false, _&&_}
 use mathlib.Core.List.{List}
 use Prim.Native.Nat.{ℕ, _≤_, _<_}
@@ -32,7 +32,7 @@ pub not-all-done : (s : State) → s .done .0 < mostTicks → allDone s ≡ fals
 unfolding allDone
 not-all-done s h = lt-leb mostTicks (s .done .0) h
 
--- start: its answer for each number, and the state of an accepted one
+-- start: its answer for each number, and the state of a refused and of an accepted one
 module _ (ps cs ss vs : List ℕ) where
   pub start-refused : (n : ℕ) → (n ≡ 0 → ⊥) → startNumber ps cs ss vs ≡ n → record { number = n; state = zeroState } ≡ startOf ps cs ss vs
   unfolding startOf
@@ -41,6 +41,10 @@ module _ (ps cs ss vs : List ℕ) where
   pub start-accepted : startNumber ps cs ss vs ≡ 0 → record { number = 0; state = freshState (tasksFrom (greatOf ps) ps cs) (ladderFrom ss vs) } ≡ startOf ps cs ss vs
   unfolding startOf
   start-accepted e = rw e
+
+  pub start-none : (startOf ps cs ss vs .number ≡ 0 → ⊥) → startOf ps cs ss vs .state ≡ zeroState
+  unfolding startOf
+  start-none z = sym (ap (λ (r : Started). r .state) (start-refused (startNumber ps cs ss vs) z refl))
 
   pub start-is : startOf ps cs ss vs .number ≡ 0 → startOf ps cs ss vs .state ≡ freshState (tasksFrom (greatOf ps) ps cs) (ladderFrom ss vs)
   unfolding startOf

@@ -1,6 +1,6 @@
 -- plainly is its definition: the answer is read off the choice, and the choice is the variant that was matched.
 use borrow.Author.Needs.{needs}
-use mathlib.Core.Path.{_≡_, sym, ap}
+use mathlib.Core.Path.{sym, ap}
 use Rattle.units.specs.Units.{ticks}
 use Rattle.rules.specs.declared.Told.{Told}
 use Rattle.rules.specs.declared.Choice.{Choice}

@@ -4,7 +4,7 @@ use Prim.Native.Nat.{_+_, _-_, _≤_}
 use native.Mathlib.Omega.{arith}
 use lib.ListN.{length, drop}
 use Rattle.rules.specs.Words.{total}
-use Rattle.player.proofs.Sums.{sum-turn, sum-end}
+use Rattle.rules.proofs.Totals.{total-rest, total-end}
 use Rattle.player.proofs.ticks.sum.Statement.{statement}
 use Rattle.player.proofs.ticks.sum.Tie as tie
 
@@ -25,7 +25,7 @@ shared-slice-read-sofar c = omega arith
 
 add-sofar : tie.Need-add-sofar Inv-loop μ-loop
 add-sofar c = let l = c .before .before in
-    omega (arith, c .before .before .before .pre, sum-turn (l .before .args .grants .now) (l .loop .i) (c .before .loop-test .taken))
+    omega (arith, c .before .before .before .pre, total-rest (λ g. g) (l .before .args .grants .now) 0 (l .loop .i) (c .before .loop-test .taken))
 
 add-i : tie.Need-add-i Inv-loop μ-loop
 add-i c = omega arith
@@ -35,11 +35,11 @@ loop-less c = omega arith
 
 loop-again : tie.Need-loop-again Inv-loop μ-loop
 loop-again c = let l = c .before .before in
-    (omega arith, omega (arith, l .loop .inv .1, sum-turn (l .before .args .grants .now) (l .loop .i) (c .before .loop-test .taken)))
+    (omega arith, omega (arith, l .loop .inv .1, total-rest (λ g. g) (l .before .args .grants .now) 0 (l .loop .i) (c .before .loop-test .taken)))
 
 returns : tie.Need-returns Inv-loop μ-loop
 returns c = let l = c .before in
-    omega (arith, l .loop .inv .1, sum-end (l .before .args .grants .now) (l .loop .i) (c .loop-test .left))
+    omega (arith, l .loop .inv .1, total-end (λ g. g) (l .before .args .grants .now) (l .loop .i) (c .loop-test .left))
 
 pub sum-spec : {M : Type 1} → statement M
 sum-spec =

@@ -5,7 +5,10 @@ use Prim.Native.Nat.{_+_, _-_, _≤_}
 use native.Mathlib.Omega.{arith}
 use lib.ListN.{length, drop}
 use Rattle.rules.proofs.Lists.{length-mapped}
-use Rattle.printout.proofs.LastLine.{cyclesOf, first-count, no-count}
+use Rattle.units.specs.declared.Cycles.{Cycles}
+use Rattle.units.specs.Units.{cycles}
+use Rattle.rules.proofs.Totals.{total-rest, total-end}
+use Rattle.printout.proofs.LastLine.{cyclesOf}
 use Rattle.printout.proofs.lasts.granted.Statement.{statement}
 use Rattle.printout.proofs.lasts.granted.Tie as tie
 
@@ -29,7 +32,7 @@ add-sum c =
     let b = c .before .before .before in
     let counts = b .before .before .args .tally .counts in
     let full : length counts ≡ 8 = search (needs, length-mapped) in
-    omega (arith, first-count counts (b .loop .i) (omega arith))
+    omega (arith, total-rest (λ (c : Cycles). c .0) counts (cycles 0) (b .loop .i) (omega arith))
 
 add-i : tie.Need-add-i Inv-loop μ-loop
 add-i c = omega arith
@@ -42,13 +45,13 @@ loop-again c =
     let b = c .before .before .before in
     let counts = b .before .before .args .tally .counts in
     let full : length counts ≡ 8 = search (needs, length-mapped) in
-    (omega arith, omega (arith, first-count counts (b .loop .i) (omega arith)))
+    (omega arith, omega (arith, total-rest (λ (c : Cycles). c .0) counts (cycles 0) (b .loop .i) (omega arith)))
 
 returns : tie.Need-returns Inv-loop μ-loop
 returns c =
     let counts = c .before .before .before .args .tally .counts in
     let full : length counts ≡ 8 = search (needs, length-mapped) in
-    omega (arith, no-count counts (c .before .loop .i) (omega arith))
+    omega (arith, total-end (λ (c : Cycles). c .0) counts (c .before .loop .i) (omega arith))
 
 pub granted-spec : {M : Type 1} → statement M
 granted-spec =

@@ -1,6 +1,5 @@
 -- `wrong_ends` answers the wrong end lines, by its callee's contract.
 use mathlib.Core.Path.{ap}
-use mathlib.Core.Bool.{false}
 use borrow.Author.Needs.{needs}
 use Rattle.runfile.specs.declared.Ends.{Ends}
 use Rattle.runfile.specs.Groups.{wrongEnds}
