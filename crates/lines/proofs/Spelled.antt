@@ -32,10 +32,6 @@ module _ (text : List ℕ) (at : ℕ) where
   pub whole-front : (xs : List ℕ) → 1 ≤ length xs → drop at text ≡ xs → at + length xs ≡ length text
   whole-front xs some e = omega (arith, length-drop at text, ap length e)
 
-  -- nothing is left past the end
-  pub past-end : drop at text ≡ [] → length text ≤ at
-  past-end e = omega (arith, length-drop at text, ap length e)
-
   module _ (b : ℕ) (rest : List ℕ) (e : drop at text ≡ b ∷ rest) where
     -- the first byte of what is left lies within the text
     pub first-within : at < length text
