@@ -17,7 +17,7 @@
  *   there (written, for grants). It may be NULL only where the length is 0.
  * - The grants list overlaps no other list of the call.
  * - The lists stay as they are during a call. Where another thread changes one meanwhile nothing is promised: start
- *   reads its lists twice.
+ *   reads its lists more than once.
  *
  * The library is for x86-64 Linux. It needs memcpy and nothing else.
  *

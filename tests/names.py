@@ -3,7 +3,7 @@
 
     python3 tests/names.py
 
-Looked up are paths, edits ('crate/name'; under a heading or in a table of one crate, 'name' alone), and words that look
+Looked up are paths, edits ('crate/name', or 'name' alone where no other crate has one of that name), and words that look
 like a name of the code: with a capital inside, a hyphen, an underscore, '::' or '.'. Other words in backquotes are passed
 over. The last line counts what is not there.
 """
@@ -28,6 +28,18 @@ def looks_like_code(name):
     return bool(re.search(r"[a-z][A-Z]|[A-Z][a-z]+[A-Z]|[A-Za-z]-[A-Za-z]|_|::|\w\.\w", name))
 
 
+def spans(page):
+    """What a page has in backquotes, with the line that it begins in; code blocks are left out."""
+    kept, code = [], False
+    for line in page.read_text().splitlines():
+        fence = line.startswith("```")
+        code ^= fence
+        kept.append("" if code or fence or line.startswith("    ") else line)
+    text = "\n".join(kept)
+    for found in re.finditer(r"`([^`]+)`", text):
+        yield text.count("\n", 0, found.start()) + 1, re.sub(r"\s+", " ", found[1])
+
+
 def there(path):
     """Whether a path is one of the repository, of a crate, or made by a build; a file of antt may lack its ending."""
     return path.startswith("target") or any(any(ROOT.glob(where + path + end)) for where in ("", "crates/*/") for end in ("", ".antt"))
@@ -48,28 +60,22 @@ def main():
         print(f"{page.relative_to(ROOT)}:{number}: `{name}` is not there")
 
     for page in PAGES:
-        code = False
-        for number, line in enumerate(page.read_text().splitlines(), 1):
-            code ^= line.startswith("```")
-            if code or line.startswith("    "):
-                continue
-            for span in re.findall(r"`([^`]+)`", line):
-                pair = re.fullmatch(r"(\w+)/(\w+)", span)
-                if pair and (ROOT / "crates" / pair[1]).is_dir():
-                    if pair.groups() not in edits and not (ROOT / span).exists():
-                        tell(page, number, span)
-                elif re.fullmatch(r"[\w-]+(/[\w*-][\w.*-]*)+/?", span):
-                    if not there(span.rstrip("/")):
-                        tell(page, number, span)
-                elif NAME.fullmatch(span) and looks_like_code(span):
-                    for part in re.split(r"::|\.", span):
-                        if part not in words and part not in labels:
-                            tell(page, number, span)
-                            break
+        for number, span in spans(page):
+            pair = re.fullmatch(r"(\w+)/(\w+)", span)
+            if pair and (ROOT / "crates" / pair[1]).is_dir():
+                if pair.groups() not in edits and not (ROOT / span).exists():
+                    tell(page, number, span)
+            elif re.fullmatch(r"[\w-]+(/[\w*-][\w.*-]*)+/?", span):
+                if not there(span.rstrip("/")):
+                    tell(page, number, span)
+            elif NAME.fullmatch(span) and looks_like_code(span):
+                if any(part not in words and part not in labels for part in re.split(r"::|\.", span)):
+                    tell(page, number, span)
 
-    named = set(WORD.findall((ROOT / "docs/PROMISES.md").read_text()))
+    named = {span for _, span in spans(ROOT / "docs/PROMISES.md")}
+    alone = [label for _, label in edits]
     for crate, label in sorted(edits):
-        if label not in named:
+        if f"{crate}/{label}" not in named and not (label in named and alone.count(label) == 1):
             missing += 1
             print(f"docs/PROMISES.md: the edit {crate}/{label} is not named")
     print(f"{len(PAGES)} pages and {len(edits)} edits, {missing} names that are not there")

@@ -10,7 +10,8 @@ An edit's first line is '# refused by FACT: what is wrong', and FACT is one of
     the statement S      the theorem of the crate whose type is the statement S is not proved
 
 The logs are those that 'rt ci' and 'rt must-fail' leave in target/must-fail. An edit without such a line or without a log,
-a log without the fact, and an edit that only makes a proof file unfit for the code are printed. The last line counts them.
+a log without the fact, an edit after which the definitions themselves are in error, and one after which a proof file names
+places that are not there are printed. The last line counts them.
 """
 
 import pathlib
@@ -20,7 +21,8 @@ import sys
 FIRST = re.compile(r"# refused by the (contract of|law|statement) (\S+): .")
 ERROR = re.compile(r"\S+:\d+:\d+: error: `([^`]+)`: (.*)")
 FUNCTION = re.compile(r"fn (?:\S+::)?(\w+): not proved$")
-UNFIT = "that can be named from here"  # an error of this kind speaks of a proof file's shape
+UNFIT = "that can be named from here"  # an error of this kind speaks of a proof file's shape,
+BROKEN = re.compile(r"^\S+/specs/\S+: error", re.MULTILINE)  # and one of this kind of a definition's
 AFTER = "was not admitted"  # an error of this kind follows from another one
 
 
@@ -38,7 +40,7 @@ def fault(crate, edit, log):
     if not log.is_file():
         return "it was not tried"
     text = log.read_text(errors="replace")
-    if UNFIT in text:
+    if UNFIT in text or BROKEN.search(text):
         return "it is refused for its shape"
     kind, name = head.groups()
     lines = text.splitlines()

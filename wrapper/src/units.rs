@@ -28,7 +28,7 @@ impl Speed {
     /// assert_eq!(Speed(75).cycles_in(Ticks(8)), Cycles(600));
     /// ```
     ///
-    /// There is no other way from one to the other:
+    /// Neither is taken for the other:
     ///
     /// ```compile_fail
     /// use piszczalin::{Cycles, Ticks};

@@ -1,4 +1,4 @@
--- Never late, for tasks with any deadlines: the step that every kind of run repeats. It knows of no state, no speed list and no count.
+-- Never late, for tasks released at any tick, each due at most a period later, in at most 16 places: the step that every kind of run repeats. It knows of no state, no speed list and no count.
 use Prim.Native.Nat.{ℕ, _+_, _-_, _*_, _/_, _≤_, _<_}
 use mathlib.Core.Path.{_≡_}
 use mathlib.Core.Bool.{Bool, true, false, cond, not, _&&_}
@@ -18,7 +18,7 @@ use Rattle.rules.specs.Settlement.{remaining, settleAll, allAllowed, atTickStar
 use Rattle.rules.specs.Numbers.{runRight}
 
 -- What a tick finds: the tasks and their jobs, how many places are looked at and which of them hold a task, the tick, and when each place's job is due.
--- The tasks' great period may be any common multiple of the periods.
+-- The tasks' great period may be any number that serves for H: a common multiple of the periods where a job is released or H is changed.
 pub record Course : Type 0 where
   pub tasks : Tasks
   pub jobs : Jobs
@@ -27,7 +27,7 @@ pub record Course : Type 0 where
   pub tick : ℕ
   pub due : ℕ → ℕ
 
--- a course with its jobs as they are now, and whether a place's job counts by d: there is one, due by then
+-- the job at a place, of jobs js, and whether it counts by d: the place holds a task, and its job is due by then
 abbrev pub jobOf : Course → Jobs → ℕ → Job
 jobOf c js i = jobAt (c .tasks) js i
 
@@ -71,7 +71,7 @@ orderIn c = orderBy (c .due) (readyIn c) (c .places)
 abbrev pub settledIn : Course → ℕ → List ℕ → Jobs
 settledIn c speed report = settleAll (c .tasks) report (orderIn c) (atTickStart (c .jobs) speed) .jobs
 
--- What the step asks of the tasks and jobs, and keeps: a deadline is at most a period away, run counts are right, a place for each job.
+-- What a tick asks of the tasks and jobs, and leaves of them: at most 16 places, H at least 1, deadlines at most a period away, run counts right, a place for each job.
 pub record Right (c : Course) (js : Jobs) : Type 0 where
   pub few : c .places ≤ mostTasks
   pub some : 1 ≤ c .tasks .great .0
@@ -80,13 +80,13 @@ pub record Right (c : Course) (js : Jobs) : Type 0 where
   pub runs : length (js .run) ≡ mostTasks
   pub marks : length (js .over) ≡ mostTasks
 
--- ANY tick that keeps rule 4, whose speed carries the load wherever a job is ready: after it every job that is due at the next tick is over, and the
--- books are in order from that tick on.
+-- What a tick leaves: for every d what is owed by d has room from the next tick on, and every job that is due by then is over.
 pub record Paid (c : Course) (js : Jobs) : Type 0 where
   pub covered : CoveredFrom c js (c .tick + 1)
   pub over-when-due : (i : ℕ) → i < c .places → c .held i ≡ true → c .due i ≤ c .tick + 1 → jobOf c js i .over ≡ true
   pub right : Right c js
 
+-- ANY tick that keeps rule 4, whose speed carries the load wherever a job is ready, leaves that.
 unfoldable pub AnyTickPays : Type 0
 AnyTickPays =
     (c : Course) → Right c (c .jobs) → Covered c
@@ -94,8 +94,8 @@ AnyTickPays =
     → ((i : ℕ) → i < c .places → readyIn c i ≡ true → loadIn c ≤ speed * c .tasks .great .0)
     → Paid c (settledIn c speed report)
 
--- How a place goes on from jobs js to another course, at a tick `from` on: as it is; or its job was due by then, and a new one is released with a whole
--- period to go; or it was due and is gone; or it was empty and a task joins, released at once.
+-- How a place goes on from jobs js to another course: as it is, be it empty; or its job was due by the other course's tick, and a new one is released
+-- with a whole period to go, or it is gone; or it was empty and a task joins, released at once.
 unfoldable pub Same : Course → Jobs → Course → ℕ → Type 0
 Same c js e i = (e .held i ≡ c .held i) × (e .due i ≡ c .due i) × (jobOf e (e .jobs) i ≡ jobOf c js i)
 
@@ -111,14 +111,14 @@ Closed c from i = (c .held i ≡ false) ⊎ (c .due i ≤ from)
 unfoldable pub GoesOn : Course → Jobs → Course → ℕ → Type 0
 GoesOn c js e i = Same c js e i ⊎ (Closed c (e .tick) i × (Fresh e i ⊎ (e .held i ≡ false)))
 
--- Releases, vanishing and joins keep the books in order, as long as H stays.
+-- Releases, vanishing and joins leave what is owed within its room, as long as H stays. (That the new course is Right is its user's to show.)
 unfoldable pub ReleasesKeep : Type 0
 ReleasesKeep =
     (c : Course) (js : Jobs) (e : Course) → e .places ≡ c .places → e .tasks .great ≡ c .tasks .great
     → ((i : ℕ) → i < c .places → GoesOn c js e i)
     → CoveredFrom c js (e .tick) → Covered e
 
--- A change of H to a multiple of it, and back, changes nothing, where each period divides the smaller one.
+-- So does a change of H to a multiple of it, and back, where each period divides the smaller one.
 unfoldable pub AnyMultipleWillDo : Type 0
 AnyMultipleWillDo =
     (c e : Course) (k : ℕ) → 1 ≤ k → e .tasks .great .0 ≡ k * c .tasks .great .0

@@ -40,7 +40,7 @@ Summed number s = number ≡ 0 → sound s ≡ true
 unfoldable pub linesOf : ℕ → ℕ → Last → List ℕ → List ℕ
 linesOf width ticks last rows = rowLines width ticks 0 rows ++ lastText last
 
--- rows that can be written: at most so many of at most 18 numbers, all of them there, and a text that is no longer than any run's
+-- rows that can be written: at most as many as a run has ticks, of at most 18 numbers, all of them there, and a text that is no longer than any run's
 pub record Writable (width ticks : ℕ) (last : Last) (rows : List ℕ) : Type 0 where
   pub there : ticks * width ≤ length rows
   pub narrow : width ≤ 18

@@ -7,7 +7,6 @@ use native.Mathlib.Decide.{ℕ-discrete, decLt}
 use native.Mathlib.Omega.{arith}
 use lib.Dec.{eqb}
 use lib.ListN.{length, getD}
-use lib.Seq.{getD-set-same, getD-set-other}
 use borrow.Author.Tests.{eq-eqb, ne-eqb}
 use Rattle.units.specs.Units.{cycles}
 use Rattle.units.specs.declared.Cycles.{Cycles}
@@ -20,6 +19,7 @@ use Rattle.rules.specs.Settlement.{atTickStart, settled}
 use Rattle.rules.specs.Counting.{counted, nextOf}
 use Rattle.rules.proofs.Lists.{upTo-getD}
 use Rattle.rules.proofs.Totals.{total-places}
+use Rattle.rules.proofs.Counted.{counted-here, counted-elsewhere}
 use Rattle.rules.proofs.Orders.{above-absent, order-below}
 use Rattle.rules.proofs.Settles.{Settles, grantsSum}
 use Rattle.rules.proofs.Keeps.{jobs-right, settles, entries-allowed}
@@ -65,16 +65,16 @@ module _ (s : State) (call : Call) (kept : SoundAndShaped s) (e : Taken s call) 
 
   -- the count of its speed, and the others
   pub count-here : countAt (next s call .tally) (speedPlace s) ≡ countAt (s .tally) (speedPlace s) + granted (stepOf s call)
-  unfolding nextOf counted countAt
+  unfolding nextOf countAt
   count-here =
       let listed = place-below s (kept .facts) in
       let has-place : speedPlace s < length (s .tally .counts) = omega (arith, kept .shape .counts, kept .facts .speeds-most) in
-      ap (λ (c : Cycles). c .0) (getD-set-same (s .tally .counts) (speedPlace s) _ (cycles 0) has-place)
+      counted-here (s .tally) (speedPlace s) (outcome s call) has-place
       ∙ ap (λ g. countAt (s .tally) (speedPlace s) + g) (sym granted-is)
 
   pub count-elsewhere : (k : ℕ) → (k ≡ speedPlace s → ⊥) → countAt (next s call .tally) k ≡ countAt (s .tally) k
-  unfolding nextOf counted countAt
-  count-elsewhere k ne = ap (λ (c : Cycles). c .0) (getD-set-other (s .tally .counts) (speedPlace s) k _ (cycles 0) ne)
+  unfolding nextOf countAt
+  count-elsewhere k ne = counted-elsewhere (s .tally) (speedPlace s) (outcome s call) k ne
 
   -- its speed stands at that place, and at no other
   pub step-speed-at : stepOf s call .speed ≡ speedAt (s .ladder) (speedPlace s)

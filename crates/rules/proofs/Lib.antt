@@ -1,6 +1,7 @@
 pub mod Answers
 pub mod CallRows
 pub mod Climbs
+pub mod Counted
 pub mod Deadlines
 pub mod Energies
 pub mod Fresh

@@ -35,10 +35,10 @@ mostGreat = 1_000_000
 abbrev pub mostTicks : ℕ
 mostTicks = 1_000_000_000
 
--- so one term of a load is at most this: a reserve in each of as many jobs as the great period has ticks
-abbrev pub mostTerm : ℕ
-mostTerm = mostReserve * mostGreat
-
 -- whether a number is from 1 to a limit: so all of the above but the great period and the ticks, which are only at most theirs
 unfoldable pub upToMost : ℕ → ℕ → Bool
 upToMost most n = leb 1 n && leb n most
+
+-- so one term of a load is at most this: a reserve in each of as many jobs as the great period has ticks
+abbrev pub mostTerm : ℕ
+mostTerm = mostReserve * mostGreat

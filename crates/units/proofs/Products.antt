@@ -1,4 +1,4 @@
--- When a product of a speed and ticks fits, and what `cyclesIn` is then.
+-- When a product of a speed and ticks fits, what `cyclesIn` is then, and that `perTick` is the way back from one tick.
 use mathlib.Core.Path.{_≡_, refl, sym, ap, _∙_}
 use mathlib.Core.Bool.{Bool, true, false}
 use Prim.Native.Nat.{ℕ, _*_, _/_, _^_, _≤_, _<_, min}

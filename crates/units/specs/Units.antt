@@ -18,7 +18,7 @@ speed n = record { 0 = n }
 abbrev pub volts : ℕ → Volts
 volts n = record { 0 = n }
 
--- the largest count, of ticks or of cycles, that can be written: 2 ^ 64 - 1
+-- the largest count, of ticks, of cycles or of anything else, that can be written: 2 ^ 64 - 1
 abbrev pub mostCount : ℕ
 mostCount = 18_446_744_073_709_551_615
 

@@ -1,4 +1,4 @@
--- Both contracts name one answer, by the law on the plain form of a state, and so are both grants lists, which were equal.
+-- Both contracts name one answer, by the law on the plain form of a state, and both grants lists, equal before, are equal after.
 use borrow.Author.Needs.{needs}
 use mathlib.Core.Path.{sym, ap, _∙_}
 use Prim.Native.Nat.{ℕ}
