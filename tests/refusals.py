@@ -20,7 +20,7 @@ import sys
 
 FIRST = re.compile(r"# refused by the (contract of|law|statement) (\S+): .")
 ERROR = re.compile(r"\S+:\d+:\d+: error: `([^`]+)`: (.*)")
-FUNCTION = re.compile(r"fn (?:\S+::)?(\w+): not proved$")
+FUNCTION = re.compile(r"fn (?:\S+::)?(\w+): (?:not proved$|no proof: )")  # the second where it has no proof file
 UNFIT = "that can be named from here"  # an error of this kind speaks of a proof file's shape,
 BROKEN = re.compile(r"^\S+/specs/\S+: error", re.MULTILINE)  # and one of this kind of a definition's
 AFTER = "was not admitted"  # an error of this kind follows from another one
