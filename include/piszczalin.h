@@ -1,4 +1,4 @@
-/* The speed governor of a cordless print head: four calls, proved to be document 01's rules for every input.
+/* The speed governor of a cordless density head: four calls, proved to be the rules of docs/RULES.md for every input.
  *
  *   start   makes a state from lists of periods, reserves, speeds and volts
  *   now     tells the task to run first and the speed, which stands for the whole of the next tick
@@ -11,8 +11,8 @@
  * - They keep nothing and allocate nothing, and they write nothing but the grants list: the same input gives the same
  *   answer. They may be called from any thread, from several at once, and in a signal handler.
  * - They end, always, and never trap.
- * - A call takes less than PISZCZALIN_STACK bytes of stack, its arguments and its answer included. What the loader
- *   takes to find memcpy at the first call is not in it: link with -static or -Wl,-z,now.
+ * - A call takes less than PISZCZALIN_STACK bytes of stack, its arguments and its answer included: measured, not
+ *   proved. What the loader takes to find memcpy at the first call is not in it: link with -static or -Wl,-z,now.
  * - A list is a pointer and a length in entries. The pointer is aligned for uint64_t, and so many entries can be read
  *   there (written, for grants). It may be NULL only where the length is 0.
  * - The grants list overlaps no other list of the call.
@@ -50,8 +50,8 @@ extern "C" {
 /* The numbers a caller may see. The smallest that applies is given. */
 enum piszczalin_number {
     PISZCZALIN_ACCEPTED = 0,       /* all: accepted */
-    PISZCZALIN_BAD_TASKS = 1,      /* start: 0 or more than 16 periods, or as many reserves not given */
-    PISZCZALIN_BAD_SPEEDS = 2,     /* start: 0 or more than 8 speeds, or as many volts not given */
+    PISZCZALIN_BAD_TASKS = 1,      /* start: 0 or more than 16 periods, or not as many reserves */
+    PISZCZALIN_BAD_SPEEDS = 2,     /* start: 0 or more than 8 speeds, or not as many volts */
     PISZCZALIN_BAD_PERIOD = 3,     /* start: a period outside its range */
     PISZCZALIN_BAD_RESERVE = 4,    /* start: a reserve outside its range */
     PISZCZALIN_BAD_SPEED = 5,      /* start: a speed outside its range or not above the one before */

@@ -5,7 +5,9 @@
 
 Looked up are paths, edits ('crate/name', or 'name' alone where no other crate has one of that name), and words that look
 like a name of the code: with a capital inside, a hyphen, an underscore, '::' or '.'. Other words in backquotes are passed
-over. The last line counts what is not there.
+over. Where a link's text is a name in backquotes, or several, and it leads to a file of Rattle, the file has each of them;
+where it is 'proof', it leads to the proof of a function that the row names; and a row that names a limit has its number. The
+last line counts what is not there.
 """
 
 import pathlib
@@ -13,7 +15,7 @@ import re
 import sys
 
 ROOT = pathlib.Path(__file__).resolve().parent.parent
-PAGES = [ROOT / "README.md", *sorted((ROOT / "docs").rglob("*.md"))]
+PAGES = [ROOT / "README.md", ROOT / "examples/README.md", *sorted((ROOT / "docs").rglob("*.md"))]
 SOURCES = ["crates/*/src/**/*", "crates/*/specs/**/*", "crates/*/proofs/**/*", "include/*", "wrapper/src/*", "wrapper/tests/*",
            "second/src/*", "second/tests/**/*", "tests/*", "tests/*/*", "tests/*/src/**/*", "examples/**/*"]
 WORD = re.compile(r"[^\W\d][\w'-]*", re.UNICODE)
@@ -38,6 +40,26 @@ def spans(page):
     text = "\n".join(kept)
     for found in re.finditer(r"`([^`]+)`", text):
         yield text.count("\n", 0, found.start()) + 1, re.sub(r"\s+", " ", found[1])
+
+
+def linked(page):
+    """The names that links of a page promise in files of Rattle, each with the file that the link leads to."""
+    for found in re.finditer(r"\[(`[^\]]*`)\]\(([^()#\s]+\.(?:antt|rt))\)", page.read_text()):
+        for name in re.findall(r"`([^`]+)`", found[1]):
+            yield found[0], re.split(r"::|\.", name)[-1], page.parent / found[2]
+
+
+def rows(page):
+    """What is wrong in the rows of a page's tables: a proof of a function that is not named, a limit with another number."""
+    limits = dict(re.findall(r"^(most\w+) = ([\d_]+)$", (ROOT / "crates/rules/specs/Limits.antt").read_text(), re.MULTILINE))
+    for row in filter(lambda line: line.startswith("|"), page.read_text().splitlines()):
+        names = {re.split(r"::|\.", name)[-1] for name in re.findall(r"`([^`]+)`", row)}
+        for proved in re.findall(r"\[proof\]\(\S*/\+?(\w+)/Proof\.antt\)", row):
+            if proved not in names:
+                yield f"the row with the proof of {proved} does not name it"
+        for limit in names & set(limits):
+            if f"{int(limits[limit]):,}" not in re.findall(r"[\d,]*\d", row):
+                yield f"the row with {limit} has not its number"
 
 
 def there(path):
@@ -71,6 +93,14 @@ def main():
             elif NAME.fullmatch(span) and looks_like_code(span):
                 if any(part not in words and part not in labels for part in re.split(r"::|\.", span)):
                     tell(page, number, span)
+
+        for link, name, path in linked(page):
+            if not path.is_file() or name not in [*WORD.findall(path.read_text()), path.stem]:
+                missing += 1
+                print(f"{page.relative_to(ROOT)}: {link}: the file has no {name}")
+        for wrong in rows(page):
+            missing += 1
+            print(f"{page.relative_to(ROOT)}: {wrong}")
 
     named = {span for _, span in spans(ROOT / "docs/PROMISES.md")}
     alone = [label for _, label in edits]

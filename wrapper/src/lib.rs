@@ -1,4 +1,4 @@
-//! The speed governor of a cordless print head. The four calls are a library that is proved to be document 01's rules for
+//! The speed governor of a cordless density head. The four calls are a library that is proved to be the rules of docs/RULES.md for
 //! every input; this crate is the safe way to it from Rust.
 //!
 //! ```

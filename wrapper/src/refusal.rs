@@ -2,7 +2,7 @@
 use core::error::Error;
 use core::fmt;
 
-/// Why a call refused, under document 01's numbers 1 to 13. The smallest that applies is given.
+/// Why a call refused, under the numbers 1 to 13 of docs/RULES.md. The smallest that applies is given.
 #[repr(u8)]
 #[derive(Clone, Copy, Debug, PartialEq, Eq, PartialOrd, Ord, Hash)]
 pub enum Refusal {
@@ -52,7 +52,7 @@ impl Refusal {
         Refusal::Entry,
     ];
 
-    /// Document 01's number: 1 to 13.
+    /// Its number in docs/RULES.md: 1 to 13.
     #[must_use]
     pub const fn number(self) -> u64 {
         self as u64
@@ -66,7 +66,7 @@ impl Refusal {
             .find(|refusal| refusal.number() == number)
     }
 
-    // Document 01's words.
+    // The table of the numbers, row by row.
     const fn words(self) -> &'static str {
         match self {
             Refusal::Tasks => "0 or more than 16 periods, or as many reserves not given",
