@@ -172,7 +172,7 @@ def fault(code, kind, before, after):
 
 def main():
     given = [pathlib.Path(name).resolve() for name in sys.argv[1:]]
-    counts, faults = collections.Counter(), 0
+    counts, faults = collections.Counter(), pages.Faults()
     for page in given or [ROOT / "README.md", ROOT / "examples/README.md", *sorted((ROOT / "docs").glob("*.md"))]:
         found = pages.read(page)[1]
         blocks = [("", ""), *((kind, textwrap.dedent("\n".join(lines)) + "\n") for _, kind, lines, _ in found), ("", "")]
@@ -180,14 +180,11 @@ def main():
             counts[kind] += 1
             said = fault(blocks[at][1], kind, blocks[at - 1], blocks[at + 1])
             if said:
-                faults += 1
-                print(f"{os.path.relpath(page, ROOT)}:{number}: {kind or 'a block'}: {said}")
+                faults.tell(page, number, f"{kind or 'a block'}: {said}")
     for kind in [] if given else WANTED:
         if not counts[kind]:
-            faults += 1
-            print(f"no page has a block that says '{kind}'")
-    print(f"code blocks: {', '.join(f'{counts[kind]} {kind}' for kind in KINDS)}; {faults} faults")
-    return 1 if faults else 0
+            faults.tell(ROOT / "docs", 0, f"no page has a block that says '{kind}'")
+    return faults.status(f"code blocks: {', '.join(f'{counts[kind]} {kind}' for kind in KINDS)}; {faults.count} faults")
 
 
 if __name__ == "__main__":

@@ -10,11 +10,13 @@ where it is 'proof', it leads to the proof of a function that the row names; and
 last line counts what is not there.
 """
 
-import pathlib
 import re
 import sys
 
-ROOT = pathlib.Path(__file__).resolve().parent.parent
+sys.dont_write_bytecode = True  # the next line leaves no file here
+import pages
+
+ROOT = pages.ROOT
 PAGES = [ROOT / "README.md", ROOT / "examples/README.md", *sorted((ROOT / "docs").rglob("*.md"))]
 SOURCES = ["crates/*/src/**/*", "crates/*/specs/**/*", "crates/*/proofs/**/*", "include/*", "wrapper/src/*", "wrapper/tests/*",
            "second/src/*", "second/tests/**/*", "tests/*", "tests/*/*", "tests/*/src/**/*", "examples/**/*"]
@@ -74,12 +76,10 @@ def main():
     sources = files()
     words = {word for path in sources for word in WORD.findall(path.read_text(errors="replace"))}
     words |= {path.stem for path in sources} | {path.name for path in sources} | {path.name for path in (ROOT / "crates").iterdir()}
-    missing = 0
+    missing = pages.Faults()
 
     def tell(page, number, name):
-        nonlocal missing
-        missing += 1
-        print(f"{page.relative_to(ROOT)}:{number}: `{name}` is not there")
+        missing.tell(page, number, f"`{name}` is not there")
 
     for page in PAGES:
         for number, span in spans(page):
@@ -96,20 +96,16 @@ def main():
 
         for link, name, path in linked(page):
             if not path.is_file() or name not in [*WORD.findall(path.read_text()), path.stem]:
-                missing += 1
-                print(f"{page.relative_to(ROOT)}: {link}: the file has no {name}")
+                missing.tell(page, 0, f"{link}: the file has no {name}")
         for wrong in rows(page):
-            missing += 1
-            print(f"{page.relative_to(ROOT)}: {wrong}")
+            missing.tell(page, 0, wrong)
 
     named = {span for _, span in spans(ROOT / "docs/PROMISES.md")}
     alone = [label for _, label in edits]
     for crate, label in sorted(edits):
         if f"{crate}/{label}" not in named and not (label in named and alone.count(label) == 1):
-            missing += 1
-            print(f"docs/PROMISES.md: the edit {crate}/{label} is not named")
-    print(f"{len(PAGES)} pages and {len(edits)} edits, {missing} names that are not there")
-    return 1 if missing else 0
+            missing.tell(ROOT / "docs/PROMISES.md", 0, f"the edit {crate}/{label} is not named")
+    return missing.status(f"{len(PAGES)} pages and {len(edits)} edits, {missing.count} names that are not there")
 
 
 if __name__ == "__main__":

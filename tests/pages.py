@@ -3,8 +3,8 @@
 
     python3 tests/pages.py
 
-Over every page (*.md) that git tracks. A line has at most 100 characters, except a table's, a code block's, and one that is a
-link and nothing else. A relative link, of an image too, leads to a file or folder that git tracks, and an anchor to a heading
+Over every page (*.md) that git tracks. A line has at most 100 characters, in a code block too, except a table's and one that is
+a link and nothing else. A relative link, of an image too, leads to a file or folder that git tracks, and an anchor to a heading
 of its page. Backquotes pair within a paragraph, and code blocks have fences, so that no link hides. Every page under docs/ is
 reached from README.md, link by link. The last line counts pages, links and faults.
 """
@@ -24,6 +24,22 @@ LINKS = [re.compile(r"\]\(\s*<?([^()<>\s]*)>?(?:\s+\"[^\"]*\")?\s*\)"),  # [text
          re.compile(r"<(?:img|source|a)\s[^>]*?\b(?:src|srcset|href)\s*=\s*[\"']([^\"'\s]*)", re.DOTALL)]
 ALONE = re.compile(r"\s*(?:[-*>] |\d+\. )?\S*(?:\]\(|://|src=|href=)\S*")  # no space to break it at
 HEADING = re.compile(r" {0,3}#{1,6}\s+(.*?)\s*#*\s*")
+
+
+class Faults:
+    """Counts what is wrong, and prints each with its page and, where it is known, its line."""
+
+    def __init__(self):
+        self.count = 0
+
+    def tell(self, page, number, what):
+        self.count += 1
+        print(f"{page.relative_to(ROOT) if page.is_relative_to(ROOT) else page}:{f'{number}:' if number else ''} {what}")
+
+    def status(self, summary):
+        """The last line, and the status to end with."""
+        print(summary)
+        return 1 if self.count else 0
 
 
 def parts(text):
@@ -127,36 +143,33 @@ def main():
     kept = tracked()
     pages = [path for path in kept if path.suffix == ".md"]
     files = {place for path in kept for place in (path, *path.parents) if place.is_relative_to(ROOT)}
-    graph, count, faults = {}, 0, 0
-
-    def tell(page, number, what):
-        nonlocal faults
-        faults += 1
-        print(f"{page.relative_to(ROOT)}:{number}: {what}")
-
+    graph, count, faults = {}, 0, Faults()
     for page in pages:
         prose, blocks = read(page)
-        for number, line in prose:
-            if len(line) > WIDTH and not line.lstrip().startswith("|") and not ALONE.fullmatch(line):
-                tell(page, number, f"the line has {len(line)} characters, more than {WIDTH}")
+        code = [(number + at, line) for number, _, lines, _ in blocks for at, line in enumerate(lines, 1)]
+        short = [(number, line) for number, line in prose if not line.lstrip().startswith("|") and not ALONE.fullmatch(line)]
+        for number, line in short + code:
+            if len(line) > WIDTH:
+                faults.tell(page, number, f"the line has {len(line)} characters, more than {WIDTH}")
         for number, what in hidden(prose):
-            tell(page, number, what)
+            faults.tell(page, number, what)
         for number, _, _, closed in blocks:
             if not closed:
-                tell(page, number, "the code block has no end")
+                faults.tell(page, number, "the code block has no end")
         graph[page] = []
         for number, link in links(prose):
             count += 1
             to, wrong = leads(page, link, files)
             graph[page].append(to)
             if wrong:
-                tell(page, number, f"the link '{link}' {wrong}")
+                faults.tell(page, number, f"the link '{link}' {wrong}")
     seen = reached(graph)
     for page in pages:
         if page.is_relative_to(ROOT / "docs") and page not in seen:
-            tell(page, 1, "no link leads here from README.md")
-    print(f"{len(pages)} pages, {count} links, {faults} faults")
-    return 0 if pages and count and not faults else 1
+            faults.tell(page, 1, "no link leads here from README.md")
+    if not count:
+        faults.tell(ROOT / "README.md", 1, "no page has a link")
+    return faults.status(f"{len(pages)} pages, {count} links, {faults.count} faults")
 
 
 if __name__ == "__main__":

@@ -11,8 +11,11 @@ use units::Speed;
 // all-zero state, for which now answers 9 and the speed 0.
 pub(crate) fn first_speed(periods: &[u64], reserves: &[u64], speeds: &[u64], volts: &[u64]) -> Speed
     ensures { λ r.
-        let started = startOf (now (periods .entry)) (now (reserves .entry)) (now (speeds .entry)) (now (volts .entry)) in
-        ⌜ r ≡ nowOf (started .state) .speed ⌝ }
+        let ps = now (periods .entry) in
+        let cs = now (reserves .entry) in
+        let ss = now (speeds .entry) in
+        let vs = now (volts .entry) in
+        ⌜ r ≡ nowOf (startOf ps cs ss vs .state) .speed ⌝ }
 {
     let started = governor::start(periods, reserves, speeds, volts);
     let told = governor::now(started.state);
