@@ -1,5 +1,5 @@
-//! The speed governor of a cordless density head. The four calls are a library that is proved to be the rules of docs/RULES.md for
-//! every input; this crate is the safe way to it from Rust.
+//! The speed governor of a cordless density head. The four calls are a library that is proved to be the rules of
+//! docs/RULES.md for every input; this crate is the safe way to it from Rust.
 //!
 //! ```
 //! use piszczalin::{start, Choice, Cycles, Entry, Speed, Ticks, Volts};
