@@ -45,7 +45,7 @@ extern "C" {
 #define PISZCZALIN_GREAT 1000000       /* great period, the least common multiple of the periods: at most 1,000,000 */
 #define PISZCZALIN_RUN 1000000000      /* ticks in one run: at most 1,000,000,000 */
 
-#define PISZCZALIN_STACK 8192          /* a call takes fewer bytes of stack than this */
+#define PISZCZALIN_STACK 4096          /* a call takes fewer bytes of stack than this */
 
 /* The numbers a caller may see. The smallest that applies is given. */
 enum piszczalin_number {

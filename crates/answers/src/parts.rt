@@ -6,13 +6,13 @@ use rules::Dues;
 use rules::Job;
 use rules::Jobs;
 use rules::Ladder;
-use rules::Order;
+use rules::Ready;
 use rules::Started;
-use rules::State;
 use rules::Tally;
 use rules::Tasks;
 use settlement::Settled;
 use soundness::Surveyed;
+use stepping::Stepped;
 use units::Cycles;
 use units::Speed;
 use units::Ticks;
@@ -42,9 +42,9 @@ pub(crate) struct TwoDues {
     pub(crate) second: Dues,
 }
 
-pub(crate) struct TwoOrders {
-    pub(crate) first: Order,
-    pub(crate) second: Order,
+pub(crate) struct TwoReady {
+    pub(crate) first: Ready,
+    pub(crate) second: Ready,
 }
 
 pub(crate) struct TwoChoices {
@@ -70,6 +70,11 @@ pub(crate) struct TwoSpeeds {
 pub(crate) struct TwoSurveyed {
     pub(crate) first: Surveyed,
     pub(crate) second: Surveyed,
+}
+
+pub(crate) struct TwoStepped {
+    pub(crate) first: Stepped,
+    pub(crate) second: Stepped,
 }
 
 pub(crate) fn cycles_in(speed: Speed, ticks: Ticks) -> TwoCycles
@@ -126,12 +131,21 @@ pub(crate) fn dues_of(done: Ticks, tasks: Tasks) -> TwoDues
     }
 }
 
-pub(crate) fn order_of(dues: Dues, jobs: Jobs, count: usize) -> TwoOrders
+pub(crate) fn ready_of(jobs: Jobs, count: usize) -> TwoReady
     ensures { λ r. ⌜ r .first ≡ r .second ⌝ }
 {
-    TwoOrders {
-        first: choosing::order_of(dues, jobs, count),
-        second: choosing::order_of(dues, jobs, count),
+    TwoReady {
+        first: choosing::ready_of(jobs, count),
+        second: choosing::ready_of(jobs, count),
+    }
+}
+
+pub(crate) fn next_place(dues: Dues, ready: Ready, count: usize) -> TwoPlaces
+    ensures { λ r. ⌜ r .first ≡ r .second ⌝ }
+{
+    TwoPlaces {
+        first: choosing::next_place(dues, ready, count),
+        second: choosing::next_place(dues, ready, count),
     }
 }
 
@@ -153,18 +167,22 @@ pub(crate) fn lowest_place(ladder: Ladder, great: Ticks, load: Cycles) -> TwoPla
     }
 }
 
+// Two grants lists that are equal before the calls are equal after them.
 pub(crate) fn settle(
     tasks: Tasks,
     jobs: Jobs,
     dues: Dues,
     speed: Speed,
     report: &[u64],
+    grants: &mut [u64],
+    again: &mut [u64],
 ) -> TwoSettled
-    ensures { λ r. ⌜ r .first ≡ r .second ⌝ }
+    requires { ⌜ now grants ≡ now again ⌝ }
+    ensures { λ r. ⌜ (r .first ≡ r .second) × (now (grants .exit) ≡ now (again .exit)) ⌝ }
 {
     TwoSettled {
-        first: settlement::settle(tasks, jobs, dues, speed, report),
-        second: settlement::settle(tasks, jobs, dues, speed, report),
+        first: settlement::settle(tasks, jobs, dues, speed, report, grants),
+        second: settlement::settle(tasks, jobs, dues, speed, report, again),
     }
 }
 
@@ -213,11 +231,37 @@ pub(crate) fn tally_right(done: Ticks, tally: Tally, top: Speed) -> TwoTests
     }
 }
 
-pub(crate) fn survey(state: State) -> TwoSurveyed
+pub(crate) fn survey(
+    done: Ticks,
+    tasks: Tasks,
+    jobs: Jobs,
+    ladder: Ladder,
+    tally: Tally,
+) -> TwoSurveyed
     ensures { λ r. ⌜ r .first ≡ r .second ⌝ }
 {
     TwoSurveyed {
-        first: soundness::survey(state),
-        second: soundness::survey(state),
+        first: soundness::survey(done, tasks, jobs, ladder, tally),
+        second: soundness::survey(done, tasks, jobs, ladder, tally),
+    }
+}
+
+// Two grants lists that are equal before the calls are equal after them.
+pub(crate) fn step(
+    done: Ticks,
+    tasks: Tasks,
+    jobs: Jobs,
+    ladder: Ladder,
+    tally: Tally,
+    report: &[u64],
+    grants: &mut [u64],
+    again: &mut [u64],
+) -> TwoStepped
+    requires { ⌜ now grants ≡ now again ⌝ }
+    ensures { λ r. ⌜ (r .first ≡ r .second) × (now (grants .exit) ≡ now (again .exit)) ⌝ }
+{
+    TwoStepped {
+        first: stepping::step(done, tasks, jobs, ladder, tally, report, grants),
+        second: stepping::step(done, tasks, jobs, ladder, tally, report, again),
     }
 }

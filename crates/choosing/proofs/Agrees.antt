@@ -14,10 +14,9 @@ use Rattle.rules.specs.State.{jobAt, periodAt, speedAt, speedsOf}
 use Rattle.rules.specs.Load.{deadline, carries}
 use Rattle.rules.specs.Choice.{deadlineAt, readyAt, orderBy, orderOf, chosen, choiceOf, lowest, loadOf, fitsOf, speedPlace}
 use Rattle.rules.proofs.Lists.{getD-upTo}
-use Rattle.rules.proofs.Orders.{order-below, order-same}
+use Rattle.rules.proofs.Orders.{head-below, order-below, order-same}
 use Rattle.rules.proofs.Soundness.{Sound}
 use Rattle.choosing.specs.Choosing.{dueBy, duesOf, dueIn, readyIn, orderIn, firstIn, choiceIn}
-use Rattle.choosing.proofs.Firsts.{head-below}
 
 -- rule 1 at a place: a period from 1 to 1,000,000 and at most 1,000,000,000 ticks give a deadline that can be written
 due-is : (t p : ℕ) → 1 ≤ p → p ≤ mostPeriod → t ≤ mostTicks → dueBy t p ≡ t + p - t % p

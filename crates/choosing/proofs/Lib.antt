@@ -1,6 +1,6 @@
 pub mod Agrees
 pub mod Dates
+pub mod Fills
 pub mod Firsts
-pub mod Insertions
-pub mod Listings
 pub mod Speeds
+pub mod Waiting

@@ -1,12 +1,10 @@
 // The speed governor's public calls. Each answers for every input, refusals too, as document 01's rules say; specs/ of `rules` has those.
 mod counts;
 mod refusals;
-mod releasing;
 
 ghost use mathlib.Core.Path.{_≡_};
 ghost use lib.ListN.{length};
 ghost use Rattle.rules.specs.Calls.{startOf, nowOf, tickOf, grantsOf, energyOf};
-ghost use Rattle.governor.specs.Parts.{Passed};
 use rules::Started;
 use rules::State;
 use rules::Ticked;
@@ -25,16 +23,18 @@ pub fn start(periods: &[u64], reserves: &[u64], speeds: &[u64], volts: &[u64]) -
 pub fn now(state: State) -> Told
     ensures { λ r. ⌜ r ≡ nowOf state ⌝ }
 {
-    let survey = soundness::survey(state);
+    let done = state.done;
+    let tasks = state.tasks;
+    let jobs = state.jobs;
+    let ladder = state.ladder;
+    let tally = state.tally;
+    let survey = soundness::survey(done, tasks, jobs, ladder, tally);
     if !survey.sound {
         return refusals::untold(9);
     }
-    let done = state.done;
     if done.0 >= 1000000000 {
         return refusals::untold(10);
     }
-    let tasks = state.tasks;
-    let ladder = state.ladder;
     let place = choosing::lowest_place(ladder, tasks.great, survey.load);
     if ladder.count <= place {
         return refusals::untold(12);
@@ -44,7 +44,7 @@ pub fn now(state: State) -> Told
     let dues = choosing::dues_of(done, tasks);
     Told {
         number: 0,
-        choice: choosing::earliest(dues, state.jobs, tasks.count),
+        choice: choosing::earliest(dues, jobs, tasks.count),
         speed: speed,
     }
 }
@@ -57,59 +57,29 @@ pub fn tick(state: State, report: &[u64], grants: &mut [u64]) -> Ticked
         × (now (grants .exit) ≡ grantsOf state (now (report .entry)) (now (grants .entry)))
         ⌝ }
 {
-    let survey = soundness::survey(state);
-    if !survey.sound {
-        return refusals::unticked(9, state);
-    }
-    let done = state.done;
-    if 1000000000 <= done.0 {
-        return refusals::unticked(10, state);
-    }
-    let tasks = state.tasks;
-    let n = tasks.count;
-    if report.len() != n {
-        return refusals::unticked(11, state);
-    }
-    if grants.len() != n {
-        return refusals::unticked(11, state);
-    }
-    let ladder = state.ladder;
-    let place = choosing::lowest_place(ladder, tasks.great, survey.load);
-    if ladder.count <= place {
-        return refusals::unticked(12, state);
-    }
-    tick_at(state, place, report, grants)
-}
-
-// tick from row 13 on, at the place of its speed: the report settled and the grants written as rule 4 says, the next state as rule 5 says.
-fn tick_at(state: State, place: usize, report: &[u64], grants: &mut [u64]) -> Ticked
-    requires { ⌜ Passed state place (now report) (length (now grants)) ⌝ }
-    ensures { λ r.
-        ⌜
-        (r ≡ tickOf state (now (report .entry)) (length (now (grants .entry))))
-        × (now (grants .exit) ≡ grantsOf state (now (report .entry)) (now (grants .entry)))
-        ⌝ }
-{
     let tasks = state.tasks;
     let ladder = state.ladder;
-    let speeds = ladder.speeds;
-    let speed = speeds[place];
-    let dues = choosing::dues_of(state.done, tasks);
-    let settled = settlement::settle(tasks, state.jobs, dues, speed, report);
-    if !settled.lawful {
-        return refusals::unticked(13, state);
-    }
-    let outcome = settled.outcome;
-    let shares = outcome.grants;
-    let mut i = 0;
-    while i < grants.len() {
-        let share = shares[i];
-        grants[i] = share.0;
-        i += 1;
-    }
+    let step = stepping::step(
+        state.done,
+        tasks,
+        state.jobs,
+        ladder,
+        state.tally,
+        report,
+        grants,
+    );
+    let done = step.done;
+    let jobs = step.jobs;
+    let tally = step.tally;
     Ticked {
-        number: 0,
-        state: releasing::next_state(state, place, speed, dues, outcome),
+        number: step.number,
+        state: State {
+            done: done,
+            tasks: tasks,
+            jobs: jobs,
+            ladder: ladder,
+            tally: tally,
+        },
     }
 }
 
@@ -117,7 +87,12 @@ fn tick_at(state: State, place: usize, report: &[u64], grants: &mut [u64]) -> Ti
 pub fn energy(state: State) -> Used
     ensures { λ r. ⌜ r ≡ energyOf state ⌝ }
 {
-    let survey = soundness::survey(state);
+    let done = state.done;
+    let tasks = state.tasks;
+    let jobs = state.jobs;
+    let ladder = state.ladder;
+    let tally = state.tally;
+    let survey = soundness::survey(done, tasks, jobs, ladder, tally);
     if !survey.sound {
         return Used {
             number: 9,
@@ -126,6 +101,6 @@ pub fn energy(state: State) -> Used
     }
     Used {
         number: 0,
-        energy: counts::energy_of(state.ladder, state.tally),
+        energy: counts::energy_of(ladder, tally),
     }
 }

@@ -1,9 +1,7 @@
-// Refused calls: the number, and nothing told or the state given.
+// A refused now: the number, and nothing told.
 ghost use mathlib.Core.Path.{_≡_};
-ghost use Rattle.governor.specs.Refusals.{untoldAs, untickedAs};
+ghost use Rattle.governor.specs.Refusals.{untoldAs};
 use rules::Choice;
-use rules::State;
-use rules::Ticked;
 use rules::Told;
 use units::Speed;
 
@@ -15,15 +13,5 @@ pub(crate) fn untold(number: u64) -> Told
         number: number,
         choice: Choice::Nothing,
         speed: Speed(0),
-    }
-}
-
-// A refused tick: the state it got.
-pub(crate) fn unticked(number: u64, state: State) -> Ticked
-    ensures { λ r. ⌜ r ≡ untickedAs number state ⌝ }
-{
-    Ticked {
-        number: number,
-        state: state,
     }
 }

@@ -1,2 +1,3 @@
 pub mod MarkLaws
 pub mod PlainLaws
+pub mod StepLaws

@@ -1,20 +1,20 @@
 -- A state to plain and back: a plain state whose marks are good is the plain state of its state, and a refused tick gives it back byte for byte.
 use mathlib.Core.Path.{_≡_, refl, sym, ap, _∙_}
-use mathlib.Core.Bool.{Bool, true, false, not, cond}
+use mathlib.Core.Bool.{Bool, true, false, cond}
 use mathlib.Core.List.{List, [], _∷_, map}
 use Prim.Native.Nat.{ℕ, zero, suc}
 use native.Mathlib.Omega.{arith}
 use lib.Dec.{eqb}
-use borrow.Author.Tests.{leb-true, not-true, not-false}
+use borrow.Author.Tests.{leb-true}
 use Rattle.units.specs.Units.{ticks, speed}
 use Rattle.rules.specs.Words.{every}
 use Rattle.rules.proofs.Lists.{every-first, every-rest}
 use Rattle.rules.specs.declared.State.{State}
 use Rattle.rules.specs.declared.Started.{Started}
-use Rattle.rules.specs.declared.Ticked.{Ticked}
 use Rattle.rules.specs.Calls.{nowOf, tickOf, grantsOf, energyOf}
 use Rattle.piszczalin.specs.declared.PlainState.{PlainState}
 use Rattle.piszczalin.specs.Plain.{isMark, overOf, markOf, marksGood, stateOf, plainStateOf, plainOf}
+use Rattle.piszczalin.specs.Parts.{allMarks, jobsOfPlain, plainJobsOf}
 use Rattle.piszczalin.specs.Calls.{plainStarted, plainTicked, plainNow, plainTick, plainGrants, plainEnergy}
 
 -- a mark turned and turned back, a bool too
@@ -61,22 +61,10 @@ pub plain-good : (s : State) → marksGood (plainStateOf s) ≡ true
 unfolding marksGood plainStateOf
 plain-good s = overs-good (s .jobs .over)
 
--- an answer made of its number and its state, plain
+-- start's answer made of its number and its state, plain
 pub started-made : (started : Started) (s : PlainState) → s ≡ plainStateOf (started .state) → record { number = started .number; state = s } ≡ plainStarted started
 unfolding plainStarted
 started-made started s e = rw e
-
-pub ticked-made : (ticked : Ticked) (s : PlainState) → s ≡ plainStateOf (ticked .state) → record { number = ticked .number; state = s } ≡ plainTicked ticked
-unfolding plainTicked
-ticked-made ticked s e = rw e
-
--- what a test of the marks tells
-module _ (s : PlainState) (r : Bool) (e : r ≡ marksGood s) where
-  pub told-bad : not r ≡ true → marksGood s ≡ false
-  told-bad t = sym e ∙ not-true r t
-
-  pub told-good : not r ≡ false → marksGood s ≡ true
-  told-good t = sym e ∙ not-false r t
 
 -- marks that are not good: each call's refusal, and the grants list as it was
 module _ (s : PlainState) (e : marksGood s ≡ false) where

@@ -2,6 +2,7 @@
 // pointer and a length, now's choice goes over in plain numbers, and a mark is a byte: any bytes are taken, and those that are no sound state are answered with 9.
 mod choices;
 mod marks;
+mod ticks;
 
 ghost use mathlib.Core.Path.{_≡_};
 ghost use lib.ListN.{length};
@@ -77,7 +78,7 @@ pub extern "C" fn piszczalin_start(
 pub extern "C" fn piszczalin_now(state: PlainState) -> PlainTold
     ensures { λ r. ⌜ r ≡ plainNow state ⌝ }
 {
-    if !marks::good(state) {
+    if !marks::good(state.jobs) {
         return PlainTold {
             number: 9,
             task: 0,
@@ -101,16 +102,21 @@ pub extern "C" fn piszczalin_tick(
         × (now (grants .exit) ≡ plainGrants state (now (report .entry)) (now (grants .entry)))
         ⌝ }
 {
-    if !marks::good(state) {
-        return PlainTicked {
-            number: 9,
-            state: state,
-        };
-    }
-    let ticked = governor::tick(marks::state_of(state), report, grants);
+    let step = ticks::stepped(state, report, grants);
+    let done = step.done;
+    let tasks = state.tasks;
+    let jobs = step.jobs;
+    let ladder = state.ladder;
+    let tally = step.tally;
     PlainTicked {
-        number: ticked.number,
-        state: marks::plain_state(ticked.state),
+        number: step.number,
+        state: PlainState {
+            done: done,
+            tasks: tasks,
+            jobs: jobs,
+            ladder: ladder,
+            tally: tally,
+        },
     }
 }
 
@@ -119,7 +125,7 @@ pub extern "C" fn piszczalin_tick(
 pub extern "C" fn piszczalin_energy(state: PlainState) -> Used
     ensures { λ r. ⌜ r ≡ plainEnergy state ⌝ }
 {
-    if !marks::good(state) {
+    if !marks::good(state.jobs) {
         return Used {
             number: 9,
             energy: 0,

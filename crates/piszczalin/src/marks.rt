@@ -1,17 +1,17 @@
 // The marks of a state: bytes at the boundary, bools behind it.
 ghost use mathlib.Core.Path.{_≡_};
 ghost use mathlib.Core.List.{map};
-ghost use Rattle.piszczalin.specs.Plain.{overOf, markOf, marksGood, stateOf, plainStateOf};
+ghost use Rattle.piszczalin.specs.Plain.{overOf, markOf, stateOf, plainStateOf};
+ghost use Rattle.piszczalin.specs.Parts.{allMarks, jobsOfPlain, plainJobsOf};
 use crate::PlainJobs;
 use crate::PlainState;
 use rules::Jobs;
 use rules::State;
 
 // Whether all sixteen bytes are marks: the highest of them is at most 1.
-pub(crate) fn good(state: PlainState) -> bool
-    ensures { λ r. ⌜ r ≡ marksGood state ⌝ }
+pub(crate) fn good(jobs: PlainJobs) -> bool
+    ensures { λ r. ⌜ r ≡ allMarks jobs ⌝ }
 {
-    let jobs = state.jobs;
     let marks = jobs.over;
     let mut highest: u8 = 0;
     let mut i = 0;
@@ -25,20 +25,39 @@ pub(crate) fn good(state: PlainState) -> bool
     highest <= 1
 }
 
+// The jobs that plain jobs are.
+pub(crate) fn jobs_of(jobs: PlainJobs) -> Jobs
+    ensures { λ r. ⌜ r ≡ jobsOfPlain jobs ⌝ }
+{
+    let run = jobs.run;
+    let marks = jobs.over;
+    let over = overs(marks);
+    Jobs {
+        run: run,
+        over: over,
+    }
+}
+
+// The plain jobs of jobs.
+pub(crate) fn plain_jobs(jobs: Jobs) -> PlainJobs
+    ensures { λ r. ⌜ r ≡ plainJobsOf jobs ⌝ }
+{
+    let run = jobs.run;
+    let over = jobs.over;
+    let marks = marks_of(over);
+    PlainJobs {
+        run: run,
+        over: marks,
+    }
+}
+
 // The state that a plain state is.
 pub(crate) fn state_of(state: PlainState) -> State
     ensures { λ r. ⌜ r ≡ stateOf state ⌝ }
 {
     let done = state.done;
     let tasks = state.tasks;
-    let given = state.jobs;
-    let run = given.run;
-    let marks = given.over;
-    let over = overs(marks);
-    let jobs = Jobs {
-        run: run,
-        over: over,
-    };
+    let jobs = jobs_of(state.jobs);
     let ladder = state.ladder;
     let tally = state.tally;
     State {
@@ -56,14 +75,7 @@ pub(crate) fn plain_state(state: State) -> PlainState
 {
     let done = state.done;
     let tasks = state.tasks;
-    let given = state.jobs;
-    let run = given.run;
-    let over = given.over;
-    let marks = marks_of(over);
-    let jobs = PlainJobs {
-        run: run,
-        over: marks,
-    };
+    let jobs = plain_jobs(state.jobs);
     let ladder = state.ladder;
     let tally = state.tally;
     PlainState {

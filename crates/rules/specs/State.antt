@@ -5,6 +5,7 @@ use mathlib.Core.Bool.{Bool, false}
 use mathlib.Core.List.{List}
 use lib.ListN.{getD, set, length}
 use Rattle.units.specs.Units.{ticks, cycles, speed, volts}
+use Rattle.units.specs.declared.Ticks.{Ticks}
 use Rattle.rules.specs.declared.Tasks.{Tasks}
 use Rattle.rules.specs.declared.Jobs.{Jobs}
 use Rattle.rules.specs.declared.Job.{Job}
@@ -29,6 +30,10 @@ voltsAt l i = getD (l .volts) i (volts 0) .0
 
 unfoldable pub countAt : Tally → ℕ → ℕ
 countAt tally i = getD (tally .counts) i (cycles 0) .0
+
+-- the state of these parts
+abbrev pub stateFrom : Ticks → Tasks → Jobs → Ladder → Tally → State
+stateFrom done ts js l tally = record { done = done; tasks = ts; jobs = js; ladder = l; tally = tally }
 
 -- the task at place i with its current job, and the jobs with another run count and mark there
 unfoldable pub jobAt : Tasks → Jobs → ℕ → Job

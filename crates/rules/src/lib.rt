@@ -60,10 +60,9 @@ pub struct Dues {
     pub at: [Ticks; 16],
 }
 
-// Rule 3: the places of the ready tasks in their order, zero past the last.
-pub struct Order {
-    pub count: usize,
-    pub places: [usize; 16],
+// Rule 3: which places wait for their turn.
+pub struct Ready {
+    pub at: [bool; 16],
 }
 
 // A tick being settled: the jobs and grants so far, the cycles left, the jobs cut.

@@ -1,26 +1,26 @@
 -- Rule 4's bullets for one ready job: its part is that of the one that applies, and what each case of that comes to.
 use mathlib.Core.Path.{_≡_, refl}
-use mathlib.Core.Bool.{Bool, true, false, cond, _&&_}
+use mathlib.Core.Bool.{true, false}
 use Prim.Native.Nat.{ℕ, _+_, _-_, _≤_, _<_, min}
 use native.Mathlib.Omega.{arith}
-use lib.Dec.{eqb, ltb, leb}
+use lib.Dec.{eqb, leb}
 use borrow.Author.Tests.{eq-eqb, ne-eqb, lt-ltb, le-ltb, le-leb, lt-leb}
 use Rattle.units.specs.declared.Cycles.{Cycles}
 use Rattle.units.specs.Units.{cycles}
 use Rattle.rules.specs.declared.Job.{Job}
 use Rattle.rules.specs.Settlement.{byBullet, remaining, usesUp, allowed, granted, isCut, isOver}
 use Rattle.rules.proofs.Lists.{and-true, and-false}
-use Rattle.settlement.specs.Parts.{shareOf, notReached, runsOn, finishesAt}
+use Rattle.settlement.specs.Parts.{shareOf, runsOn, finishesAt}
 
--- the part of a job is that of the bullet that applies
-pub by-bullet : (left u : ℕ) (j : Job) → byBullet left u (notReached u) (runsOn left j) (finishesAt left u j) ≡ shareOf left u j
-unfolding notReached runsOn finishesAt shareOf allowed granted isOver isCut byBullet
-by-bullet left u j = go (eqb left 0) (eqb u 0)
-  where
-    go : (a b : Bool) → cond a (notReached u) (cond b (runsOn left j) (finishesAt left u j)) ≡ record { allowed = cond a (eqb u 0) (cond b true (ltb (j .run .0) u && leb u (j .reserve .0) && leb (u - j .run .0) left)); given = cycles (cond a 0 (cond b (min left (remaining j)) (u - j .run .0))); over = cond a false (cond b (usesUp left j) true); cut = cond a false (cond b (usesUp left j) false) }
-    go true b = refl
-    go false true = refl
-    go false false = refl
+-- while something is left, the part of a job is that of the bullet of its entry
+module _ (left u : ℕ) (j : Job) (some : 0 < left) where
+  pub by-entry-0 : eqb u 0 ≡ true → runsOn left j ≡ shareOf left u j
+  unfolding runsOn shareOf allowed granted isOver isCut byBullet
+  by-entry-0 e = rw (ne-eqb left 0 (λ z. omega (arith, z, some)), e)
+
+  pub by-entry-u : eqb u 0 ≡ false → finishesAt left u j ≡ shareOf left u j
+  unfolding finishesAt shareOf allowed granted isOver isCut byBullet
+  by-entry-u e = rw (ne-eqb left 0 (λ z. omega (arith, z, some)), e)
 
 -- entry 0: a run past the reserve gets nothing, less than what remains is all given, and what remains uses the reserve up
 module _ (left : Cycles) (j : Job) where

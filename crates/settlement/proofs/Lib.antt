@@ -1,5 +1,8 @@
 pub mod Bullets
 pub mod Marks
-pub mod Orders
+pub mod Spent
 pub mod Steps
+pub mod Told
+pub mod Waits
 pub mod Wholes
+pub mod Written

@@ -1,46 +1,24 @@
--- The whole settlement from its parts: what `order_of` answers is an order that can be settled, and rule 4's last bullet comes first.
-use mathlib.Core.Path.{_≡_}
+-- The two ends of a settlement are what it answers: an entry broke rule 4, or none did and all is settled.
+use mathlib.Core.Path.{_≡_, sym, ap, _∙_}
 use mathlib.Core.Bool.{true, false}
 use mathlib.Core.List.{List}
-use Prim.Native.Nat.{ℕ, _≤_, min}
-use native.Mathlib.Omega.{arith}
-use lib.ListN.{length}
+use Prim.Native.Nat.{ℕ}
 use Rattle.rules.specs.declared.Tasks.{Tasks}
 use Rattle.rules.specs.declared.Jobs.{Jobs}
-use Rattle.rules.specs.declared.Dues.{Dues}
-use Rattle.rules.specs.Limits.{mostTasks}
-use Rattle.rules.specs.Settlement.{overEntriesZero, atTickStart}
-use Rattle.rules.proofs.Orders.{order-below, order-short}
-use Rattle.choosing.specs.Choosing.{dueIn, readyIn, orderIn, listed, orderList}
-use Rattle.choosing.proofs.Listings.{listed-list, listed-long, listed-below}
-use Rattle.settlement.specs.Settled.{settledOf}
-use Rattle.settlement.specs.Parts.{Placed, settledFrom, refusedAs}
+use Rattle.rules.specs.declared.Settling.{Settling}
+use Rattle.rules.specs.Settlement.{settleAll, atTickStart}
+use Rattle.settlement.specs.Settled.{lawfulIn, settledOf, paid, grantedOf}
+use Rattle.settlement.specs.Parts.{refusedAs, cameTo}
+use Rattle.settlement.proofs.Told.{settled-lawful, grants-paid, settled-refused, grants-stay}
 
--- an order of the tasks, in an array
-module _ (d : Dues) (js : Jobs) (n : ℕ) where
-  short : length (orderIn d js n) ≤ mostTasks
-  unfolding orderIn
-  short = omega (arith, order-short (dueIn d) (readyIn js) (min n mostTasks))
+module _ (ts : Tasks) (js : Jobs) (order : List ℕ) (speed : ℕ) (report grants : List ℕ) where
+  pub broken-told : lawfulIn ts js order speed report ≡ false → (refusedAs js speed ≡ settledOf ts js order speed report) × (grants ≡ grantedOf ts js order speed report grants)
+  unfolding refusedAs
+  broken-told e = (sym (settled-refused ts js order speed report e), sym (grants-stay ts js order speed report e grants))
 
-  pub placed-order : Placed (listed (orderIn d js n))
-  unfolding listed orderIn
-  placed-order =
-      record {
-        few = short;
-        long = listed-long (orderIn d js n);
-        below = λ k h. omega (arith, listed-below (orderIn d js n) (min n mostTasks) (order-below (dueIn d) (readyIn js) (min n mostTasks)) k h (omega (arith, h, short)));
-      }
-
-  pub listed-order : orderList (listed (orderIn d js n)) ≡ orderIn d js n
-  listed-order = listed-list (orderIn d js n) short
-
-module _ (ts : Tasks) (js : Jobs) (order : List ℕ) (speed : ℕ) (report : List ℕ) where
-  -- an entry for a job that is over
-  pub over-broken : overEntriesZero ts js report ≡ false → refusedAs js speed ≡ settledOf ts js order speed report
-  unfolding settledOf refusedAs
-  over-broken e = rw e
-
-  -- none: the order decides
-  pub over-kept : overEntriesZero ts js report ≡ true → settledFrom ts report order (atTickStart js speed) ≡ settledOf ts js order speed report
-  unfolding settledOf settledFrom
-  over-kept e = rw e
+  pub kept-told : lawfulIn ts js order speed report ≡ true → (o : Settling) → settleAll ts report order (atTickStart js speed) ≡ o → (cameTo (o .jobs) (o .left) (o .cut) ≡ settledOf ts js order speed report) × (paid (o .grants) grants ≡ grantedOf ts js order speed report grants)
+  unfolding cameTo
+  kept-told e o is = (
+    sym (settled-lawful ts js order speed report e ∙ ap (λ (x : Settling). record { jobs = x .jobs; left = x .left; cut = x .cut; lawful = true }) is),
+    sym (grants-paid ts js order speed report e grants ∙ ap (λ (x : Settling). paid (x .grants) grants) is),
+  )

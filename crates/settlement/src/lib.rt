@@ -5,27 +5,35 @@ mod turns;
 
 ghost use mathlib.Core.Path.{_≡_};
 ghost use Rattle.choosing.specs.Choosing.{orderIn};
-ghost use Rattle.settlement.specs.Settled.{settledOf};
+ghost use Rattle.settlement.specs.Settled.{settledOf, grantedOf};
 use rules::Dues;
 use rules::Jobs;
-use rules::Settling;
 use rules::Tasks;
+use units::Cycles;
 use units::Speed;
 
-// A tick settled: what the settlement came to, and whether no entry breaks rule 4; where one breaks it, as at the tick's start.
+// A tick settled: the jobs after it, the cycles left, the jobs cut, and whether no entry breaks rule 4; where one breaks it, as at the tick's start.
 pub struct Settled {
-    pub outcome: Settling,
+    pub jobs: Jobs,
+    pub left: Cycles,
+    pub cut: u64,
     pub lawful: bool,
 }
 
-// The tick of these tasks and jobs at a speed, settled by a report, in the order of the deadlines.
-pub fn settle(tasks: Tasks, jobs: Jobs, dues: Dues, speed: Speed, report: &[u64]) -> Settled
+// The tick of these tasks and jobs at a speed, settled by a report, in the order of the deadlines; each job's cycles written to the grants list, unless an entry breaks rule 4.
+pub fn settle(
+    tasks: Tasks,
+    jobs: Jobs,
+    dues: Dues,
+    speed: Speed,
+    report: &[u64],
+    grants: &mut [u64],
+) -> Settled
     ensures { λ r.
-        ⌜ r ≡ settledOf tasks jobs (orderIn dues jobs (tasks .count)) (speed .0) (now (report .entry)) ⌝ }
+        ⌜
+        (r ≡ settledOf tasks jobs (orderIn dues jobs (tasks .count)) (speed .0) (now (report .entry)))
+        × (now (grants .exit) ≡ grantedOf tasks jobs (orderIn dues jobs (tasks .count)) (speed .0) (now (report .entry)) (now (grants .entry)))
+        ⌝ }
 {
-    if !entries::over_entries_zero(tasks, jobs, report) {
-        return turns::refused(jobs, speed);
-    }
-    let order = choosing::order_of(dues, jobs, tasks.count);
-    turns::settle_order(tasks, jobs, order, speed, report)
+    turns::settle_waiting(tasks, jobs, dues, speed, report, grants)
 }

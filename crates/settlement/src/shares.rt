@@ -1,6 +1,7 @@
 // Rule 4 for one job: whether its entry is allowed, what it gets, and whether it is over or cut by that.
 ghost use mathlib.Core.Path.{_≡_};
-ghost use Rattle.settlement.specs.Parts.{shareOf, notReached, runsOn, finishesAt};
+ghost use Prim.Native.Nat.{_<_};
+ghost use Rattle.settlement.specs.Parts.{shareOf, runsOn, finishesAt};
 use rules::Job;
 use units::Cycles;
 
@@ -12,29 +13,15 @@ pub struct Share {
     pub cut: bool,
 }
 
-// The bullet that applies to a ready job: nothing left, entry 0, or entry u.
+// The bullet that applies to a ready job while something is left: entry 0, or entry u. (Once nothing is left, `rest_zero` sees to the entries.)
 pub(crate) fn share_out(left: Cycles, entry: u64, job: Job) -> Share
+    requires { ⌜ 0 < left .0 ⌝ }
     ensures { λ r. ⌜ r ≡ shareOf (left .0) entry job ⌝ }
 {
-    if left.0 == 0 {
-        return not_reached(entry);
-    }
     if entry == 0 {
         return runs_on(left, job);
     }
     finishes(left, entry, job)
-}
-
-// Nothing left: the job gets 0 and its entry must be 0.
-fn not_reached(entry: u64) -> Share
-    ensures { λ r. ⌜ r ≡ notReached entry ⌝ }
-{
-    Share {
-        allowed: entry == 0,
-        given: Cycles(0),
-        over: false,
-        cut: false,
-    }
 }
 
 // Entry 0: the smaller of what is left and the remaining reserve; if that uses up the reserve, over and cut.

@@ -2,10 +2,15 @@
 mod sums;
 
 ghost use mathlib.Core.Path.{_≡_};
+ghost use Rattle.rules.specs.State.{stateFrom};
 ghost use Rattle.soundness.specs.Survey.{surveyOf, unsoundSurvey};
-use rules::State;
+use rules::Jobs;
+use rules::Ladder;
+use rules::Tally;
+use rules::Tasks;
 use sums::Summing;
 use units::Cycles;
+use units::Ticks;
 
 // Whether a state is sound, and its load where it is.
 pub struct Surveyed {
@@ -13,22 +18,17 @@ pub struct Surveyed {
     pub load: Cycles,
 }
 
-// Whether a state is sound, clause by clause, and the sum of use x (H / P) where it is.
-pub fn survey(state: State) -> Surveyed
-    ensures { λ r. ⌜ r ≡ surveyOf state ⌝ }
+// Whether the state of these parts is sound, clause by clause, and the sum of use x (H / P) where it is.
+pub fn survey(done: Ticks, tasks: Tasks, jobs: Jobs, ladder: Ladder, tally: Tally) -> Surveyed
+    ensures { λ r. ⌜ r ≡ surveyOf (stateFrom done tasks jobs ladder tally) ⌝ }
 {
-    let tasks = state.tasks;
-    let jobs = state.jobs;
     let Summing::Made(made) = sums::task_sums(tasks, jobs) else {
         return unsound();
     };
-    let ladder = state.ladder;
-    let tally = state.tally;
     if !rungs::ladder_right(ladder, tally) {
         return unsound();
     }
     let top = rungs::top_of(ladder);
-    let done = state.done;
     if !tallies::tally_right(done, tally, top) {
         return unsound();
     }

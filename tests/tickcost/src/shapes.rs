@@ -14,14 +14,17 @@ pub enum Shape {
     Cut,
     /// As random, with a task of period 1 and others of short ones: releases at every tick.
     Releases,
+    /// Every task has period 1 and finishes after one cycle: each tick settles a finish of every task.
+    Finishes,
 }
 
 impl Shape {
-    pub const WORDS: [(&'static str, Shape); 4] = [
+    pub const WORDS: [(&'static str, Shape); 5] = [
         ("random", Shape::Random),
         ("idle", Shape::Idle),
         ("cut", Shape::Cut),
         ("releases", Shape::Releases),
+        ("finishes", Shape::Finishes),
     ];
 }
 
@@ -37,6 +40,7 @@ const PERIODS: [u64; 16] = [
     8, 10, 14, 20, 25, 40, 50, 56, 70, 100, 125, 140, 200, 250, 280, 350,
 ];
 const SHORT_PERIODS: [u64; 16] = [1, 2, 3, 4, 5, 6, 8, 10, 12, 15, 20, 24, 30, 40, 60, 120];
+const PERIODS_OF_1: [u64; 16] = [1; 16];
 const SPEEDS: [u64; 8] = [30, 40, 50, 60, 70, 80, 90, 100];
 const VOLTS: [u64; 8] = [15, 20, 25, 30, 35, 40, 45, 50];
 
@@ -45,6 +49,7 @@ impl Table {
     pub fn new(tasks: usize, shape: Shape) -> Table {
         let periods = match shape {
             Shape::Releases => &SHORT_PERIODS[..tasks],
+            Shape::Finishes => &PERIODS_OF_1[..tasks],
             _ => &PERIODS[..tasks],
         };
         let every = if tasks == 16 { 1 } else { 2 };
@@ -110,8 +115,8 @@ fn reports(state: &mut State, shape: Shape, ticks: u64, random: &mut Random) -> 
 fn fill(report: &mut [u64], state: &State, shape: Shape, random: &mut Random) {
     match shape {
         Shape::Cut => {}
-        // One cycle each: the lowest speed reaches all.
-        Shape::Idle => {
+        // One cycle each: every speed reaches all.
+        Shape::Idle | Shape::Finishes => {
             for (task, entry) in report.iter_mut().enumerate() {
                 *entry = u64::from(!state.over[task]);
             }

@@ -2,7 +2,9 @@
 use borrow.Author.Needs.{needs}
 use mathlib.Core.Path.{ap, _∙_}
 use Rattle.rules.specs.Calls.{energyOf}
-use Rattle.piszczalin.proofs.PlainLaws.{told-bad, told-good, energy-bad, energy-good}
+use Rattle.rules.proofs.Answers.{passed, failed}
+use Rattle.piszczalin.specs.Plain.{marksGood}
+use Rattle.piszczalin.proofs.PlainLaws.{energy-bad, energy-good}
 use Rattle.piszczalin.proofs.piszczalin_energy.Statement.{statement}
 use Rattle.piszczalin.proofs.piszczalin_energy.Tie as tie
 
@@ -10,7 +12,8 @@ good-requires : tie.Need-good-requires
 good-requires c κs = search needs
 
 returns : tie.Need-returns
-returns c = energy-bad _ (told-bad _ _ (c .before .good2 .ensures) (c .if1 .taken))
+unfolding marksGood
+returns c = energy-bad _ (failed (c .before .good2 .ensures) (c .if1 .taken))
 
 state-of-requires : tie.Need-state-of-requires
 state-of-requires c κs = search needs
@@ -19,11 +22,12 @@ energy-requires : tie.Need-energy-requires
 energy-requires c κs = search needs
 
 returns-2 : tie.Need-returns-2
+unfolding marksGood
 returns-2 c =
     let b = c .before .before in
     c .energy .ensures
     ∙ ap energyOf (c .before .state-of .ensures)
-    ∙ energy-good _ (told-good _ _ (b .before .good2 .ensures) (b .if1 .left))
+    ∙ energy-good _ (passed (b .before .good2 .ensures) (b .if1 .left))
 
 pub piszczalin-energy-spec : {M : Type 1} → statement M
 piszczalin-energy-spec =

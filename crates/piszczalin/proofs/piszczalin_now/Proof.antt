@@ -3,8 +3,9 @@ use borrow.Author.Needs.{needs}
 use mathlib.Core.Path.{ap, _∙_}
 use Rattle.rules.specs.declared.State.{State}
 use Rattle.rules.specs.Calls.{nowOf}
-use Rattle.piszczalin.specs.Plain.{plainOf}
-use Rattle.piszczalin.proofs.PlainLaws.{told-bad, told-good, now-bad, now-good}
+use Rattle.rules.proofs.Answers.{passed, failed}
+use Rattle.piszczalin.specs.Plain.{marksGood, plainOf}
+use Rattle.piszczalin.proofs.PlainLaws.{now-bad, now-good}
 use Rattle.piszczalin.proofs.piszczalin_now.Statement.{statement}
 use Rattle.piszczalin.proofs.piszczalin_now.Tie as tie
 
@@ -12,7 +13,8 @@ good-requires : tie.Need-good-requires
 good-requires c κs = search needs
 
 returns : tie.Need-returns
-returns c = now-bad _ (told-bad _ _ (c .before .good2 .ensures) (c .if1 .taken))
+unfolding marksGood
+returns c = now-bad _ (failed (c .before .good2 .ensures) (c .if1 .taken))
 
 state-of-requires : tie.Need-state-of-requires
 state-of-requires c κs = search needs
@@ -24,12 +26,13 @@ plainly-requires : tie.Need-plainly-requires
 plainly-requires c κs = search needs
 
 returns-2 : tie.Need-returns-2
+unfolding marksGood
 returns-2 c =
     let b = c .before .before .before in
     c .plainly .ensures
     ∙ ap plainOf (c .before .now .ensures)
     ∙ ap (λ (s : State). plainOf (nowOf s)) (c .before .before .state-of .ensures)
-    ∙ now-good _ (told-good _ _ (b .before .good2 .ensures) (b .if1 .left))
+    ∙ now-good _ (passed (b .before .good2 .ensures) (b .if1 .left))
 
 pub piszczalin-now-spec : {M : Type 1} → statement M
 piszczalin-now-spec =

@@ -6,6 +6,7 @@ use Prim.Native.Nat.{_*_}
 use lib.Dec.{leb}
 use Rattle.units.specs.declared.Speed.{Speed}
 use Rattle.rules.specs.declared.State.{State}
+use Rattle.rules.specs.State.{stateFrom}
 use Rattle.rules.proofs.Answers.{passed, failed}
 use Rattle.rungs.specs.Rungs.{topIn}
 use Rattle.tallies.specs.Tallies.{tallyRight}
@@ -18,7 +19,9 @@ use Rattle.soundness.proofs.survey.Tie as tie
 
 -- the state, once its task side is right
 abbrev st : tie.After-known-told → State
-st k = k .before .before .before .before .before .before .args .state
+st k =
+    let x = k .before .before .before .before .args in
+    stateFrom (x .done) (x .tasks) (x .jobs) (x .ladder) (x .tally)
 
 -- its top speed and its sums
 abbrev top : tie.After-known-told → Speed
@@ -37,18 +40,18 @@ made-is k =
     made-sums (st k .tasks) (st k .jobs) _ _ (sym (k .before .made .given .1) ∙ k .before .before .before .task-sums .ensures)
 
 -- the tally's test and rule 7's, with the top speed and the sums that the calls answered
-tally-told : (c : tie.After-tally-right) → c .tally-right .result ≡ tallyRight (st (c .before .before .before .before .before .before .before) .done) (st (c .before .before .before .before .before .before .before) .tally) (top (c .before .before .before .before .before .before .before))
+tally-told : (c : tie.After-tally-right) → c .tally-right .result ≡ tallyRight (st (c .before .before .before .before) .done) (st (c .before .before .before .before) .tally) (top (c .before .before .before .before))
 tally-told c =
-    let s = st (c .before .before .before .before .before .before .before) in
-    c .tally-right .ensures ∙ ap (tallyRight (s .done) (s .tally)) (c .before .before .top-of .ensures)
+    let s = st (c .before .before .before .before) in
+    c .tally-right .ensures ∙ ap (tallyRight (s .done) (s .tally)) (c .before .top-of .ensures)
 
-great-told : (c : tie.After-great-right) → c .great-right .result ≡ greatTest (sums (c .before .before .before .before .before .before .before .before .before))
-great-told c = c .great-right .ensures ∙ ap greatTest (made-is (c .before .before .before .before .before .before .before .before .before))
+great-told : (c : tie.After-great-right) → c .great-right .result ≡ greatTest (sums (c .before .before .before .before .before .before))
+great-told c = c .great-right .ensures ∙ ap greatTest (made-is (c .before .before .before .before .before .before))
 
-full-told : (c : tie.After-carries) → c .carries .result ≡ leb (sums (c .before .before .before .before .before .before .before .before .before .before .before .before .before) .full .0) (top (c .before .before .before .before .before .before .before .before .before .before .before .before .before) .0 * st (c .before .before .before .before .before .before .before .before .before .before .before .before .before) .tasks .great .0)
+full-told : (c : tie.After-carries) → c .carries .result ≡ leb (sums (c .before .before .before .before .before .before .before .before .before .before) .full .0) (top (c .before .before .before .before .before .before .before .before .before .before) .0 * st (c .before .before .before .before .before .before .before .before .before .before) .tasks .great .0)
 full-told c =
-    let k = c .before .before .before .before .before .before .before .before .before .before .before .before .before in
-    let above = c .before .before .before .before .before .before .before .before in
+    let k = c .before .before .before .before .before .before .before .before .before .before in
+    let above = c .before .before .before .before .before .before .before in
     c .carries .ensures
     ∙ ap₂ (λ (m : Sums) (t : Speed). leb (m .full .0) (t .0 * st k .tasks .great .0)) (made-is k) (above .top-of .ensures)
 
@@ -67,7 +70,8 @@ unsound-requires c κs = search needs
 returns : tie.Need-returns
 returns c =
     let t = c .before in
-    let s = t .before .before .before .before .before .args .state in
+    let x = t .before .before .before .args in
+    let s = stateFrom (x .done) (x .tasks) (x .jobs) (x .ladder) (x .tally) in
     c .unsound .ensures
     ∙ survey-failed s _ (tasks-hold s) (wrong-test (s .tasks) (s .jobs) _ (sym (t .enum-told .given .1) ∙ t .before .before .task-sums .ensures))
 
@@ -79,7 +83,7 @@ unsound-requires-2 c κs = search needs
 
 returns-2 : tie.Need-returns-2
 returns-2 c =
-    let s = st (c .before .before .before .before .before) in
+    let s = st (c .before .before .before) in
     c .unsound2 .ensures
     ∙ survey-failed s _ (ladder-holds s) (failed (c .before .before .ladder-right .ensures) (c .before .if1 .taken))
 
@@ -94,7 +98,7 @@ unsound-requires-3 c κs = search needs
 
 returns-3 : tie.Need-returns-3
 returns-3 c =
-    let s = st (c .before .before .before .before .before .before .before .before .before) in
+    let s = st (c .before .before .before .before .before .before) in
     c .unsound3 .ensures
     ∙ survey-failed s _ (tally-holds s) (failed (tally-told (c .before .before)) (c .before .if2 .taken))
 
@@ -106,7 +110,7 @@ unsound-requires-4 c κs = search needs
 
 returns-4 : tie.Need-returns-4
 returns-4 c =
-    let s = st (c .before .before .before .before .before .before .before .before .before .before .before) in
+    let s = st (c .before .before .before .before .before .before .before .before) in
     c .unsound4 .ensures
     ∙ survey-failed s _ (great-holds s) (failed (great-told (c .before .before)) (c .before .if3 .taken))
 
@@ -118,7 +122,7 @@ unsound-requires-5 c κs = search needs
 
 returns-5 : tie.Need-returns-5
 returns-5 c =
-    let s = st (c .before .before .before .before .before .before .before .before .before .before .before .before .before .before .before) in
+    let s = st (c .before .before .before .before .before .before .before .before .before .before .before .before) in
     c .unsound5 .ensures
     ∙ survey-failed s _ (full-holds s) (failed (full-told (c .before .before)) (c .before .if4 .taken))
 
@@ -127,8 +131,8 @@ returns-6 c =
     let f = c .before in
     let g = f .before .before .before .before in
     let y = g .before .before in
-    let l = y .before .before .before .before in
-    let k = l .before .before .before .before in
+    let l = y .before .before .before in
+    let k = l .before .before in
     survey-passed (st k)
     (record {
       tasks = tasks-passed k;

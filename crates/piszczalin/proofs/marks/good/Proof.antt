@@ -6,7 +6,8 @@ use Prim.Native.Nat.{_-_, _<_}
 use native.Mathlib.Omega.{arith}
 use lib.ListN.{length}
 use Rattle.rules.specs.Words.{every}
-use Rattle.piszczalin.specs.Plain.{isMark, marksGood}
+use Rattle.piszczalin.specs.Plain.{isMark}
+use Rattle.piszczalin.specs.Parts.{allMarks}
 use Rattle.piszczalin.proofs.MarkLaws.{highestGood, highest-none, raised, kept, highest-all}
 use Rattle.piszczalin.proofs.marks.good.Statement.{statement}
 use Rattle.piszczalin.proofs.marks.good.Tie as tie
@@ -32,16 +33,15 @@ loop-less c = omega arith
 loop-again : tie.Need-loop-again Inv-loop μ-loop
 loop-again c =
     let w = c .before .before .loop in
-    let marks = c .before .before .before .before .before .args .state .jobs .over in
+    let marks = c .before .before .before .before .args .jobs .over in
     let long : length marks ≡ 16 = search needs in
     let here : w .i < length marks = omega arith in
     w .inv ∙ ⊎-elim (λ u. rw (u .1) (raised marks (w .highest) (w .i) here (u .0 .taken))) (λ u. rw (u .1) (kept marks (w .highest) (w .i) here (u .0 .left))) (c .if1 .came)
 
 returns : tie.Need-returns Inv-loop μ-loop
-unfolding marksGood
 returns c =
     let w = c .before .loop in
-    let marks = c .before .before .before .before .args .state .jobs .over in
+    let marks = c .before .before .before .args .jobs .over in
     let long : length marks ≡ 16 = search needs in
     sym (w .inv ∙ highest-all marks (w .highest) (w .i) (omega arith))
 

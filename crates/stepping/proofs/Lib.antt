@@ -1,0 +1,3 @@
+pub mod ReleaseLaws
+pub mod RowLaws
+pub mod TickLaws
