@@ -12,7 +12,7 @@ const USAGE: &str = "\
 tickcost GOVERNOR TASKS SHAPE near-start|near-end TICKS [--time]
   GOVERNOR  library, second, bare-O2, bare-O3, or all
   TASKS     1 to 16
-  SHAPE     random, idle, cut or releases
+  SHAPE     random, idle, cut, releases or finishes
 One governor plays the run once. With all, that they agree is checked, refused ticks between.
 With --time, the best nanoseconds of processor time per tick of several repetitions are printed.";
 
