@@ -1,4 +1,6 @@
 // Whether a table is one that start takes: numbers 1 to 8 of document 01, and the great period.
+#![tactic(auto)]
+
 mod lists;
 mod tests;
 

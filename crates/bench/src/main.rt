@@ -1,4 +1,6 @@
 // The bench: a run file on standard input, its run on standard output. What is printed for which bytes is said and proved in `printout`.
+#![tactic(auto)]
+
 ghost use Rattle.std.specs.Prelude.{length};
 ghost use Rattle.bench.specs.Within.{Within};
 

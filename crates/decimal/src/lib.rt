@@ -1,4 +1,6 @@
 // Numbers as text: a field of digits read, and a number written in decimal.
+#![tactic(auto)]
+
 ghost use Rattle.std.specs.Prelude.{◌≡◌, length};
 ghost use Rattle.words.specs.Words.{put_in, place_after};
 ghost use Rattle.decimal.specs.Decimal.{field_at, decimal_of};

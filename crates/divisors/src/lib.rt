@@ -1,4 +1,6 @@
 // Greatest common divisors, and least common multiples under a cap.
+#![tactic(auto)]
+
 ghost use Rattle.divisors.specs.Divisors.{IsGcd, IsLcm, IsLcmOf, Capped, ZeroIn};
 
 // What a least common multiple comes to under a cap.

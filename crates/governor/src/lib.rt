@@ -1,4 +1,6 @@
 // The speed governor's public calls. Each answers for every input, refusals too, as document 01's rules say; specs/ of `rules` has those.
+#![tactic(auto)]
+
 mod counts;
 mod refusals;
 

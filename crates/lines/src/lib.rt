@@ -1,4 +1,6 @@
 // The lines of a run file: numbers that commas part, and a line's end. Each is read at a place of the text.
+#![tactic(auto)]
+
 ghost use Rattle.std.specs.Prelude.{◌≡◌};
 ghost use Rattle.lines.specs.Lines.{line_end, number_comma, number_end, pair_at, end_at, run_at};
 

@@ -1,4 +1,6 @@
 // Many run files in one process, for comparisons: what the bench prints for each of them, from the same call. Each run file comes after three bytes with its length, each printed run goes out after four with its own, the first byte the highest.
+#![tactic(auto)]
+
 use libc::{STDERR_FILENO, STDIN_FILENO, STDOUT_FILENO};
 use printout::Printed;
 

@@ -9,3 +9,4 @@
 //   AnyMultipleWillDo  so does a change of H to a multiple of it, and back   (SamePlaces, Multiples)
 //
 // Sums has the laws of sums over places.
+#![tactic(auto)]

@@ -1,5 +1,7 @@
 // The boundary: the governor's four calls under plain names, for C and Rust to link. Structs are laid out as C lays them out, a list is a
 // pointer and a length, now's choice goes over in plain numbers, and a mark is a byte: any bytes are taken, and those that are no sound state are answered with 9.
+#![tactic(auto)]
+
 mod choices;
 mod marks;
 mod ticks;

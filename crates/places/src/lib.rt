@@ -1,4 +1,6 @@
 // The task places of a state: each task's numbers in their ranges and its job's run right, and zeros past the count.
+#![tactic(auto)]
+
 ghost use Rattle.std.specs.Prelude.{◌≡◌};
 ghost use Rattle.rules.specs.Words.{every};
 ghost use Rattle.rules.specs.Numbers.{unused_job};

@@ -1,4 +1,6 @@
 // The player: a run file played with the governor's calls. What a run is stands in specs/Plays; rendering it is left to others.
+#![tactic(auto)]
+
 mod ticks;
 
 ghost use Rattle.std.specs.Prelude.{◌≡◌, length};

@@ -1,4 +1,6 @@
 // The printout: what the bench prints for any bytes, into a buffer that the caller lends.
+#![tactic(auto)]
+
 mod lasts;
 mod rows;
 mod whole;

@@ -14,3 +14,4 @@
 //   EitherSide   document 01's table (a) to (l)   (EitherSideRows)
 //
 // The laws of sums over places are those of ontime (Sums). That each call has one answer is proved in the crate answers.
+#![tactic(auto)]

@@ -1,4 +1,6 @@
 // The governor's state and the answers of the four calls, as plain values. Document 01's rules on them are the definitions in specs/.
+#![tactic(auto)]
+
 use units::{Cycles, Speed, Ticks, Volts};
 
 // The task side of a table: how many tasks, the great period H, and each task's period and reserve.

@@ -1,4 +1,6 @@
 // The run file's reader: from any bytes to the run file that they are, or to 14.
+#![tactic(auto)]
+
 mod groups;
 
 ghost use Rattle.std.specs.Prelude.{◌≡◌};

@@ -1,4 +1,6 @@
 // The speed places of a state: speeds that rise and volts that never fall, in their ranges, and zeros past the count; and the top speed.
+#![tactic(auto)]
+
 mod walks;
 
 ghost use Rattle.std.specs.Prelude.{◌≡◌};

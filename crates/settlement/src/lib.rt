@@ -1,4 +1,6 @@
 // Rule 4: a report is settled, job by job, in the order of rule 3.
+#![tactic(auto)]
+
 mod entries;
 mod shares;
 mod turns;

@@ -1,4 +1,6 @@
 // Whether a state is sound, and its load where it is. Every clause of document 01's soundness is tested once, for any numbers that the state may hold.
+#![tactic(auto)]
+
 mod sums;
 
 ghost use Rattle.std.specs.Prelude.{◌≡◌};

@@ -1,4 +1,6 @@
 // start, the first of the governor's calls: a table judged, and its fresh state.
+#![tactic(auto)]
+
 mod tables;
 
 ghost use Rattle.std.specs.Prelude.{◌≡◌};

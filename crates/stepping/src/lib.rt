@@ -1,4 +1,6 @@
 // One tick by the parts of a state: its number, what it changes, and its grants. Rules 4 and 5 in their order, and numbers 9 to 13.
+#![tactic(auto)]
+
 mod counts;
 mod releasing;
 mod rows;

@@ -1,4 +1,6 @@
 // The counts of a state against its ticks: t itself, late and cut, and the cycles that its top speed could have made.
+#![tactic(auto)]
+
 mod counts;
 
 ghost use Rattle.std.specs.Prelude.{◌≡◌};

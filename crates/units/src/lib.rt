@@ -1,4 +1,6 @@
 // Ticks, cycles, speeds and volts as types of their own. A count of ticks becomes a count of cycles only here, through a speed, and a count of cycles a speed.
+#![tactic(auto)]
+
 ghost use Rattle.std.specs.Prelude.{◌≡◌, ◌*◌, leb};
 ghost use Rattle.units.specs.Units.{cycles_in, per_tick};
 

@@ -1,4 +1,6 @@
 // Fixed byte strings: compared at a place of a text, and put into a buffer from a place on.
+#![tactic(auto)]
+
 ghost use Rattle.std.specs.Prelude.{◌≡◌};
 ghost use Rattle.words.specs.Words.{stands_at, put_in, place_after};
 
