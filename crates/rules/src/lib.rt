@@ -5,7 +5,7 @@ use units::{Cycles, Speed, Ticks, Volts};
 
 // The task side of a table: how many tasks, the great period H, and each task's period and reserve.
 #[repr(C)]
-#[derive(Drop)]
+#[derive(Clone, Copy)]
 pub struct Tasks {
     pub count: usize,
     pub great: Ticks,
@@ -15,14 +15,14 @@ pub struct Tasks {
 
 // Each task's current job: the cycles that it ran, and whether it is over.
 #[repr(C)]
-#[derive(Drop)]
+#[derive(Clone, Copy)]
 pub struct Jobs {
     pub run: [Cycles; 16],
     pub over: [bool; 16],
 }
 
 // One task with its current job.
-#[derive(Drop)]
+#[derive(Clone, Copy)]
 pub struct Job {
     pub period: Ticks,
     pub reserve: Cycles,
@@ -32,7 +32,7 @@ pub struct Job {
 
 // The speed side of a table: how many speeds, and each with its volts.
 #[repr(C)]
-#[derive(Drop)]
+#[derive(Clone, Copy)]
 pub struct Ladder {
     pub count: usize,
     pub speeds: [Speed; 8],
@@ -41,7 +41,7 @@ pub struct Ladder {
 
 // What has been counted: cycles granted at each speed, idle cycles, jobs that were late, jobs that were cut.
 #[repr(C)]
-#[derive(Drop)]
+#[derive(Clone, Copy)]
 pub struct Tally {
     pub counts: [Cycles; 8],
     pub idle: Cycles,
@@ -51,7 +51,7 @@ pub struct Tally {
 
 // The whole state: the ticks done so far, the table, the current jobs and the counts.
 #[repr(C)]
-#[derive(Drop)]
+#[derive(Clone, Copy)]
 pub struct State {
     pub done: Ticks,
     pub tasks: Tasks,
@@ -61,19 +61,19 @@ pub struct State {
 }
 
 // Rule 1: each task's deadline at a tick.
-#[derive(Drop)]
+#[derive(Clone, Copy)]
 pub struct Dues {
     pub at: [Ticks; 16],
 }
 
 // Rule 3: which places wait for their turn.
-#[derive(Drop)]
+#[derive(Clone, Copy)]
 pub struct Ready {
     pub at: [bool; 16],
 }
 
 // A tick being settled: the jobs and grants so far, the cycles left, the jobs cut.
-#[derive(Drop)]
+#[derive(Clone, Copy)]
 pub struct Settling {
     pub jobs: Jobs,
     pub grants: [Cycles; 16],
@@ -82,14 +82,14 @@ pub struct Settling {
 }
 
 // A tick's releases being made: the jobs so far, the jobs counted as late.
-#[derive(Drop)]
+#[derive(Clone, Copy)]
 pub struct Releasing {
     pub jobs: Jobs,
     pub late: u64,
 }
 
 // Rule 3's choice: a task, numbered from 1, with its deadline, or nothing ready.
-#[derive(Drop)]
+#[derive(Clone, Copy)]
 pub enum Choice {
     Task { number: u64, deadline: Ticks },
     Nothing,
@@ -97,14 +97,14 @@ pub enum Choice {
 
 // What start answers: a number, and the fresh state or the all-zero one.
 #[repr(C)]
-#[derive(Drop)]
+#[derive(Clone, Copy)]
 pub struct Started {
     pub number: u64,
     pub state: State,
 }
 
 // What now answers: a number, the choice and the speed.
-#[derive(Drop)]
+#[derive(Clone, Copy)]
 pub struct Told {
     pub number: u64,
     pub choice: Choice,
@@ -113,7 +113,7 @@ pub struct Told {
 
 // What tick answers: a number, and the next state or the one given.
 #[repr(C)]
-#[derive(Drop)]
+#[derive(Clone, Copy)]
 pub struct Ticked {
     pub number: u64,
     pub state: State,
@@ -121,7 +121,7 @@ pub struct Ticked {
 
 // What energy answers: a number, and the energy or 0.
 #[repr(C)]
-#[derive(Drop)]
+#[derive(Clone, Copy)]
 pub struct Used {
     pub number: u64,
     pub energy: u64,

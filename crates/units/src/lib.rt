@@ -6,22 +6,22 @@ ghost use Rattle.units.specs.Units.{cycles_in, per_tick};
 
 // A count of ticks, the clock's steps.
 #[repr(C)]
-#[derive(Drop)]
+#[derive(Clone, Copy)]
 pub struct Ticks(pub u64);
 
 // A count of cycles, in which work is measured.
 #[repr(C)]
-#[derive(Drop)]
+#[derive(Clone, Copy)]
 pub struct Cycles(pub u64);
 
 // A speed: cycles per tick.
 #[repr(C)]
-#[derive(Drop)]
+#[derive(Clone, Copy)]
 pub struct Speed(pub u64);
 
 // A voltage in whole tenths of a volt.
 #[repr(C)]
-#[derive(Drop)]
+#[derive(Clone, Copy)]
 pub struct Volts(pub u64);
 
 // The cycles that a speed makes in so many ticks; the largest count there is, where they are more than that.
