@@ -118,8 +118,8 @@ def parameter(reader):
 
 def function_at(path, words, place):
     """name, parameters and answer of the exported function whose `extern` stands at a place"""
-    if words[place - 1] != 'pub' or attributes(words, place) != ['#[no_mangle]']:
-        die(f'{path}: an extern function that is not `#[no_mangle] pub`')
+    if words[place - 1] != 'pub' or attributes(words, place) != ['#[unsafe(no_mangle)]']:
+        die(f'{path}: an extern function that is not `#[unsafe(no_mangle)] pub`')
     reader = Reader(path, words, place + 1)
     reader.take('"C"')
     reader.take('fn')
@@ -148,7 +148,7 @@ def read_rattle(paths):
             elif word == 'extern':
                 functions.append(function_at(path, words, place))
         if words.count('no_mangle') != words.count('extern'):
-            die(f'{path}: #[no_mangle] on what is no extern function')
+            die(f'{path}: #[unsafe(no_mangle)] on what is no extern function')
     return structs, functions
 
 
@@ -159,8 +159,8 @@ def layout(structs, name, done):
     if name not in structs:
         die(f'the type {name} is not among the structs')
     marks, fields = structs[name]
-    if marks != ['#[repr(C)]']:
-        die(f'struct {name} goes over the boundary, and its attributes are {marks}, not #[repr(C)] alone')
+    if sorted(marks) != ['#[derive(Clone,Copy)]', '#[repr(C)]']:
+        die(f'struct {name} goes over the boundary, and its attributes are {marks}, not #[repr(C)] and #[derive(Clone, Copy)] alone')
     end, most, lines = 0, 1, []
     for field, (kind, length) in fields:
         size, align = layout(structs, kind, done)

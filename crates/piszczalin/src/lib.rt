@@ -14,7 +14,7 @@ use units::{Cycles, Speed, Ticks};
 
 // Each task's current job: the cycles that it ran, and its mark, 1 where it is over and 0 where it is not.
 #[repr(C)]
-#[derive(Drop)]
+#[derive(Clone, Copy)]
 pub struct PlainJobs {
     pub run: [Cycles; 16],
     pub over: [u8; 16],
@@ -22,7 +22,7 @@ pub struct PlainJobs {
 
 // The whole state, of any bytes.
 #[repr(C)]
-#[derive(Drop)]
+#[derive(Clone, Copy)]
 pub struct PlainState {
     pub done: Ticks,
     pub tasks: Tasks,
@@ -33,7 +33,7 @@ pub struct PlainState {
 
 // What start answers: a number, and the fresh state or the all-zero one.
 #[repr(C)]
-#[derive(Drop)]
+#[derive(Clone, Copy)]
 pub struct PlainStarted {
     pub number: u64,
     pub state: PlainState,
@@ -41,7 +41,7 @@ pub struct PlainStarted {
 
 // What now answers, in plain numbers: task 0 and deadline 0 where nothing is ready.
 #[repr(C)]
-#[derive(Drop)]
+#[derive(Clone, Copy)]
 pub struct PlainTold {
     pub number: u64,
     pub task: u64,
@@ -51,15 +51,14 @@ pub struct PlainTold {
 
 // What tick answers: a number, and the next state or the one given.
 #[repr(C)]
-#[derive(Drop)]
+#[derive(Clone, Copy)]
 pub struct PlainTicked {
     pub number: u64,
     pub state: PlainState,
 }
 
 // start: from lent lists to 0 and the fresh state, or to the smallest number of 1 to 8 that applies and the all-zero state.
-#[unsafe(no_mangle)]
-pub extern "C" fn piszczalin_start(
+pub fn piszczalin_start(
     periods: &[u64],
     reserves: &[u64],
     speeds: &[u64],
@@ -75,8 +74,7 @@ pub extern "C" fn piszczalin_start(
 }
 
 // now: from any state to the choice and the speed; refused (9, 10, 12), nothing chosen and speed 0.
-#[unsafe(no_mangle)]
-pub extern "C" fn piszczalin_now(state: PlainState) -> PlainTold
+pub fn piszczalin_now(state: PlainState) -> PlainTold
     ensures { result ≡ plain_now state }
 {
     if !marks::good(state.jobs) {
@@ -91,8 +89,7 @@ pub extern "C" fn piszczalin_now(state: PlainState) -> PlainTold
 }
 
 // tick: from any state and a report to the next state, each task's cycles written to the grants list; refused (9 to 13), the state given and the list as it was.
-#[unsafe(no_mangle)]
-pub extern "C" fn piszczalin_tick(
+pub fn piszczalin_tick(
     state: PlainState,
     report: &[u64],
     grants: &mut [u64],
@@ -119,8 +116,7 @@ pub extern "C" fn piszczalin_tick(
 }
 
 // energy: from any state to the sum over speeds of count x volts x volts; refused (9), 0.
-#[unsafe(no_mangle)]
-pub extern "C" fn piszczalin_energy(state: PlainState) -> Used
+pub fn piszczalin_energy(state: PlainState) -> Used
     ensures { result ≡ plain_energy state }
 {
     if !marks::good(state.jobs) {
