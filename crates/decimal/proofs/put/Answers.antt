@@ -1,13 +1,10 @@
 -- `put` stores from the last digit to the first: the digits left, stored over what there is, are the whole number stored.
-use borrow.Author.Rules.{rules}
-use mathlib.Core.Path.{◌≡◌, refl, sym, ◌∙◌}
-use Prim.Native.Nat.{◌-◌, ◌≤◌}
+use mathlib.Core.Path.{refl, sym, ◌∙◌}
 use native.Mathlib.Omega.{arith}
-use lib.ListN.{length, length-set}
-use lib.Seq.{sets}
+use lib.ListN.{length-set}
 use Rattle.words.proofs.Stores.{put_fits, put_short}
 use Rattle.decimal.specs.Decimal.{decimal_of}
-use Rattle.decimal.proofs.Backwards.{last_digits, store_back, all_left, none_left}
+use Rattle.decimal.proofs.Backwards.{store_back, all_left, none_left}
 use Rattle.decimal.proofs.put.Goals as goal
 
 pub returns-then-at-out : goal.returns-then-at-out

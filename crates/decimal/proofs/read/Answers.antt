@@ -1,12 +1,8 @@
 -- `read` passes digit after digit: those passed with those ahead are the field, and where none is ahead the number passed is its number.
-use borrow.Author.Rules.{rules}
-use mathlib.Core.Logic.{⊎_elim}
-use Prim.Native.Nat.{◌-◌}
 use native.Mathlib.Omega.{arith}
-use lib.ListN.{length}
-use Rattle.decimal.proofs.Reading.{Passed, Ended, none_passed, one_more, no_fit, no_more, byte_low, byte_high, text_ends, within, reads_none, reads_zero, reads_one, reads_more}
+use Rattle.decimal.proofs.Reading.{Ended, none_passed, one_more, no_fit, no_more, byte_low, byte_high, text_ends, within, reads_none, reads_zero, reads_one, reads_more}
 use Rattle.decimal.proofs.read.Goals as goal
-use Rattle.decimal.proofs.read.Goals.{Left-loop-i}
+use Rattle.decimal.proofs.read.Goals.{Left-loop-i, else-loop-i-test, then-loop-i-test+then-b-lt48, then-loop-i-test+else-b-lt48+then-b-gt57}
 
 pub loop-i-init : goal.loop-i-init
 loop-i-init c = none_passed _ _
@@ -37,9 +33,11 @@ loop-i-preserved c =
 left : (c : Left-loop-i) → Ended c.args.text.now c.args.at c.loop-i.i c.loop-i.value
 left c =
     no_more _ _ _ _ c.loop-i.invariant
-    (⊎_elim (λ w. text_ends _ _ w.left)
-    (⊎_elim (λ w. byte_low _ _ w.0.taken w.2.taken) (λ w. byte_high _ _ w.0.taken w.2.left w.3.taken))
-    c.loop-i-test.branch)
+    (elim c.loop-i-test.branch [
+      | else-loop-i-test w ↦ text_ends _ _ w.loop-i-test.false
+      | then-loop-i-test+then-b-lt48 w ↦ byte_low _ _ w.loop-i-test.true w.if-b-lt48.true
+      | then-loop-i-test+else-b-lt48+then-b-gt57 w ↦ byte_high _ _ w.loop-i-test.true w.if-b-lt48.false w.if-b-gt57.true
+    ])
 
 pub returns-then-n-eq0 : goal.returns-then-n-eq0
 returns-then-n-eq0 c = reads_none _ _ _ _ (left (goal.at.returns-then-n-eq0 c).Left-loop-i) (omega arith)

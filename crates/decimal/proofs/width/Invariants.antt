@@ -1,11 +1,8 @@
 -- `width` goes up the powers of ten: there are as many digits as powers at most the number, and one more.
-use borrow.Author.Rules.{rules}
-use mathlib.Core.Path.{◌≡◌, refl}
-use Prim.Native.Nat.{◌+◌, ◌-◌, ◌^◌, ◌≤◌, ◌<◌}
-use native.Mathlib.Omega.{arith}
+use mathlib.Core.Path.{◌≡◌}
+use Prim.Native.Nat.{◌-◌, ◌^◌, ◌≤◌, ◌<◌}
 use lib.ListN.{length}
 use Rattle.decimal.specs.Decimal.{decimal_of}
-use Rattle.decimal.proofs.Written.{some_digit, few_digits, narrow, wide, next_power, power_fits}
 use Rattle.decimal.proofs.width.Given as goal
 
 abbrev pub invariant-loop-power : goal.invariant-loop-power
