@@ -17,7 +17,6 @@ use Rattle.rules.specs.declared.Job.{Job}
 use Rattle.rules.specs.Words.{up_to, every}
 use Rattle.rules.specs.Limits.{most_tasks, most_period, most_reserve, up_to_most}
 use Rattle.rules.specs.Numbers.{unused_job, run_right}
-use Rattle.rules.proofs.Answers.{passed, failed}
 use Rattle.rules.proofs.Lists.{both_left, both_right}
 use Rattle.rules.proofs.WalkLaws.{walk_on, walk_stop, walk_end}
 use Rattle.rules.proofs.Ranges.{too_low}
@@ -39,11 +38,11 @@ place_fits i h = omega arith
 
 -- a walk over the places from `i` on, whose answer is the whole test's: it stops at a place that fails, goes on past one that passes, or ends
 module _ (q : Job → Bool) (n i : ℕ) (f : ℕ → Job) (whole : Bool) (rest : whole ≡ every q (drop i (up_to n f))) where
-  pub stopped : i < n → (r : Bool) → r ≡ q (f i) → not r ≡ true → false ≡ whole
-  stopped l r e t = sym (rest ∙ walk_stop q n f i l (failed e t))
+  pub stopped : i < n → (r : Bool) → r ≡ q (f i) → r ≡ false → false ≡ whole
+  stopped l r e t = sym (rest ∙ walk_stop q n f i l (sym e ∙ t))
 
-  pub gone_on : i < n → (r : Bool) → r ≡ q (f i) → not r ≡ false → whole ≡ every q (drop (i + 1) (up_to n f))
-  gone_on l r e t = rest ∙ walk_on q n f i l (passed e t)
+  pub gone_on : i < n → (r : Bool) → r ≡ q (f i) → r ≡ true → whole ≡ every q (drop (i + 1) (up_to n f))
+  gone_on l r e t = rest ∙ walk_on q n f i l (sym e ∙ t)
 
   pub ended : n ≤ i → true ≡ whole
   ended l = sym (rest ∙ walk_end q n f i l)
