@@ -17,6 +17,7 @@ use Rattle.rules.proofs.Sorted.{Before, AheadOf, InOrder}
 
 -- what holds of every entry holds of each
 every_has : (q : ℕ → Bool) (k : ℕ) (o : List ℕ) → every q o ≡ true → Memᴰ k o → q k ≡ true
+every_has q k [] e x'' = elim x'' [ ]
 every_has q k (i ∷ o) e (Memᴰ.head z) = rw z (every_first q i o e)
 every_has q k (i ∷ o) e (Memᴰ.tail m) = every_has q k o (every_rest q i o e) m
 
@@ -78,6 +79,7 @@ module _ (key : ℕ → ℕ) where
 
   insert_old : (i m : ℕ) (o : List ℕ) → Memᴰ m o → Memᴰ m (insert_by key i o)
   unfolding insert_by
+  insert_old i m [] x' = elim x' [ ]
   insert_old i m (k ∷ o) (Memᴰ.head z) = go (leb (key k) (key i)) refl
     where
       go : (b : Bool) → leb (key k) (key i) ≡ b → Memᴰ m (insert_by key i (k ∷ o))

@@ -71,6 +71,7 @@ lowest_told s e = rw (← speed_told s e) (lowest_of s (told_sound s e))
 module _ (key : ℕ → ℕ) (a k : ℕ) where
   ahead_of : (o : List ℕ) → AheadOf key a o → Memᴰ k o → Before key a k
   unfolding AheadOf
+  ahead_of [] h x'' = elim x'' [ ]
   ahead_of (b ∷ o) h (Memᴰ.head e) = rw e h.0
   ahead_of (b ∷ o) h (Memᴰ.tail m) = ahead_of o h.1 m
 

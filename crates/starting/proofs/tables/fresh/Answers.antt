@@ -2,12 +2,8 @@
 use mathlib.Core.Path.{refl}
 use Rattle.rules.specs.Words.{up_to}
 use Rattle.rules.specs.Calls.{fresh_jobs, fresh_tally, fresh_state}
-use Rattle.starting.proofs.tables.fresh.Statement.{statement}
-use Rattle.starting.proofs.tables.fresh.Tie as tie
+use Rattle.starting.proofs.tables.fresh.Goals as goal
 
-returns : tie.Need-returns
+pub returns : goal.returns
 unfolding fresh_state fresh_jobs fresh_tally up_to
 returns c = refl
-
-pub fresh-spec : {M : Type 1} → statement M
-fresh-spec = tie.close (tie.spec returns)
