@@ -12,7 +12,7 @@ use rules::{Job, Jobs, Tasks};
 use units::{Cycles, Ticks};
 
 // The sum of reserve x (H / P), the sum of use x (H / P), the greatest common divisor of all H / P, and the sum of what each P leaves of H.
-#[derive(Drop)]
+#[derive(Clone, Copy)]
 pub(crate) struct Sums {
     pub(crate) full: Cycles,
     pub(crate) load: Cycles,
