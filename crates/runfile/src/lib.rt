@@ -17,7 +17,7 @@ pub struct Pairs {
 }
 
 // End lines: how many, and the tick, the task from 1 and the cycles of each; zero past the last.
-#[derive(Drop)]
+#[derive(Clone, Copy)]
 pub struct Ends {
     pub count: usize,
     pub ticks: [u64; 1000],

@@ -24,9 +24,8 @@ overflow_add-after c = omega arith
 
 pub loop-i-init : goal.loop-i-init
 loop-i-init c =
-    let w = c in
-    let a = w.args in
-    (omega arith, omega arith, refl, all_left a.out.now a.at a.n w.width-digits.result w.width-digits.ensures)
+    let a = c.args in
+    (omega arith, omega arith, refl, all_left a.out.now a.at a.n c.width-digits.result c.width-digits.ensures)
 
 pub overflow_cast-out : goal.overflow_cast-out
 overflow_cast-out c = omega arith
@@ -42,16 +41,14 @@ loop-i-smaller c = omega arith
 
 pub loop-i-preserved : goal.loop-i-preserved
 loop-i-preserved c =
-    let b = c in
-    let a = b.args in
-    (omega arith, omega arith, simp length-set b.loop-i.invariant.2, sym (store_back b.loop-i.out a.at b.loop-i.i b.loop-i.rest c.loop-i-test.true) ∙ b.loop-i.invariant.3)
+    let a = c.args in
+    (omega arith, omega arith, simp length-set c.loop-i.invariant.2, sym (store_back c.loop-i.out a.at c.loop-i.i c.loop-i.rest c.loop-i-test.true) ∙ c.loop-i.invariant.3)
 
 pub shape_of-out : goal.shape_of-out
 shape_of-out c = c.loop-i.invariant.2
 
 pub returns : goal.returns
 returns c =
-    let b = c in
-    let a = b.args in
+    let a = c.args in
     let fit = put_fits a.out.now a.at (decimal_of a.n) (omega arith) in
-    record { value = omega (arith, fit.1); out_after = sym (none_left b.loop-i.out a.at b.loop-i.i b.loop-i.rest c.loop-i-test.false) ∙ b.loop-i.invariant.3 ∙ sym fit.0 }
+    record { value = omega (arith, fit.1); out_after = sym (none_left c.loop-i.out a.at c.loop-i.i c.loop-i.rest c.loop-i-test.false) ∙ c.loop-i.invariant.3 ∙ sym fit.0 }

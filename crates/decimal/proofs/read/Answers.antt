@@ -15,8 +15,7 @@ overflow_sub-d-in-loop-i c = omega arith
 
 pub returns-then-value-d : goal.returns-then-value-d
 returns-then-value-d c =
-    let b = c in
-    no_fit _ _ b.loop-i.i b.loop-i.value b.loop-i.invariant (omega arith) (omega arith) (omega arith) (omega arith)
+    no_fit _ _ c.loop-i.i c.loop-i.value c.loop-i.invariant (omega arith) (omega arith) (omega arith) (omega arith)
 
 pub overflow_mul-value : goal.overflow_mul-value
 overflow_mul-value c = omega arith
@@ -26,8 +25,7 @@ overflow_add-value c = omega arith
 
 pub loop-i-preserved : goal.loop-i-preserved
 loop-i-preserved c =
-    let b = c in
-    one_more _ _ b.loop-i.i b.loop-i.value b.loop-i.invariant (omega arith) (omega arith) (omega arith) (omega arith)
+    one_more _ _ c.loop-i.i c.loop-i.value c.loop-i.invariant (omega arith) (omega arith) (omega arith) (omega arith)
 
 -- where the loop is left, no digit is ahead: the text ends, or a byte is no digit
 left : (c : Left-loop-i) → Ended c.args.text.now c.args.at c.loop-i.i c.loop-i.value

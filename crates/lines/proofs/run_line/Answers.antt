@@ -23,11 +23,9 @@ overflow_add-at c =
 pub returns-in_default : goal.returns-in_default
 unfolding run_word
 returns-in_default c =
-    let n = c in
-    run_empty _ _ n.stands.ensures n.if-not-stands.false n.number_end.ensures c.in_default.is
+    run_empty _ _ c.stands.ensures c.if-not-stands.false c.number_end.ensures c.in_default.is
 
 pub returns : goal.returns
 unfolding run_word
 returns c =
-    let n = c in
-    run_there _ _ n.stands.ensures n.if-not-stands.false n.number_end.ensures c.in-Number.is
+    run_there _ _ c.stands.ensures c.if-not-stands.false c.number_end.ensures c.in-Number.is
