@@ -106,7 +106,7 @@ def stands(code):
 def prints(text, printed):
     """What is wrong with lines that the bench is said to print for a run file."""
     if not (ROOT / "target/bin/bench").exists():
-        return "target/bin/bench is not there; rt check bench makes it"
+        return "target/bin/bench is not there; bash tests/make bench makes it"
     done = run(["bash", "tests/emulated", "target/bin/bench"], input=text)
     line = {"..": r"(?:[^\r\n]*\r\n)+"}
     shown = "".join(line.get(said, re.escape(said) + r"\r\n") for said in printed.splitlines())

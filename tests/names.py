@@ -56,7 +56,7 @@ def rows(page):
     limits = dict(re.findall(r"^(most\w+) = ([\d_]+)$", (ROOT / "crates/rules/specs/Limits.antt").read_text(), re.MULTILINE))
     for row in filter(lambda line: line.startswith("|"), page.read_text().splitlines()):
         names = {re.split(r"::|\.", name)[-1] for name in re.findall(r"`([^`]+)`", row)}
-        for proved in re.findall(r"\[proof\]\(\S*/\+?(\w+)/Proof\.antt\)", row):
+        for proved in re.findall(r"\[proof\]\(\S*/\+?(\w+)/(?:Answers|Invariants)\.antt\)", row):
             if proved not in names:
                 yield f"the row with the proof of {proved} does not name it"
         for limit in names & set(limits):

@@ -1,4 +1,4 @@
-//! Tells the linker where the static library is: `PISZCZALIN_LIB`, or the folder that `rt staticlib piszczalin` writes.
+//! Tells the linker where the static library is: `PISZCZALIN_LIB`, or the folder that `bash tests/make piszczalin` writes.
 use std::env;
 use std::path::PathBuf;
 
@@ -28,7 +28,7 @@ fn main() {
             folder.join("libpiszczalin.a").display()
         );
         if !folder.is_absolute() || !folder.join("libpiszczalin.a").exists() {
-            println!("cargo:warning=libpiszczalin.a is not in {}: `rt staticlib piszczalin` makes it, and PISZCZALIN_LIB is the whole path of its folder", folder.display());
+            println!("cargo:warning=libpiszczalin.a is not in {}: `bash tests/make piszczalin` makes it, and PISZCZALIN_LIB is the whole path of its folder", folder.display());
         }
         println!("cargo:rustc-link-search=native={}", folder.display());
         println!("cargo:rustc-link-lib=static=piszczalin");
