@@ -14,7 +14,6 @@ use Rattle.rules.specs.declared.Started.{Started}
 use Rattle.rules.specs.Calls.{now_of, tick_of, grants_of, energy_of}
 use Rattle.piszczalin.specs.declared.PlainState.{PlainState}
 use Rattle.piszczalin.specs.Plain.{is_mark, over_of, mark_of, marks_good, state_of, plain_state_of, plain_of}
-use Rattle.piszczalin.specs.Parts.{all_marks, jobs_of_plain, plain_jobs_of}
 use Rattle.piszczalin.specs.Calls.{plain_started, plain_ticked, plain_now, plain_tick, plain_grants, plain_energy}
 
 -- a mark turned and turned back, a bool too

@@ -89,11 +89,7 @@ pub fn piszczalin_now(state: PlainState) -> PlainTold
 }
 
 // tick: from any state and a report to the next state, each task's cycles written to the grants list; refused (9 to 13), the state given and the list as it was.
-pub fn piszczalin_tick(
-    state: PlainState,
-    report: &[u64],
-    grants: &mut [u64],
-) -> PlainTicked
+pub fn piszczalin_tick(state: PlainState, report: &[u64], grants: &mut [u64]) -> PlainTicked
     ensures { (result ≡ plain_tick state report.now (length grants.old))
         × (grants.new ≡ plain_grants state report.now grants.old) }
 {
