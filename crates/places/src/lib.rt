@@ -9,6 +9,7 @@ ghost use Rattle.places.specs.Places.{job_right, jobs_past};
 use rules::{Job, Jobs, Tasks};
 
 // No. 3, 4 and the run of the current job: below the reserve while it is not over, then from 1 to the reserve.
+#[tactic(auto, using(crate::proofs::PlaceLaws::period_out, crate::proofs::PlaceLaws::reserve_out, crate::proofs::PlaceLaws::over_low, crate::proofs::PlaceLaws::over_right, crate::proofs::PlaceLaws::ready_right, rules::proofs::Ranges::in_range, rules::proofs::Ranges::too_low, rules::proofs::Ranges::too_high))]
 pub fn job_right(job: Job) -> bool
     ensures { result ≡ job_right job }
 {

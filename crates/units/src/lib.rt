@@ -25,6 +25,7 @@ pub struct Speed(pub u64);
 pub struct Volts(pub u64);
 
 // The cycles that a speed makes in so many ticks; the largest count there is, where they are more than that.
+#[tactic(auto, using(crate::proofs::Products::small_fits, crate::proofs::Products::in_most, crate::proofs::Products::no_ticks, crate::proofs::Products::past_is, crate::proofs::Products::past_most, crate::proofs::Products::tested_fits))]
 pub fn cycles_in(speed: Speed, ticks: Ticks) -> Cycles
     ensures { result ≡ cycles_in speed ticks }
 {
