@@ -105,6 +105,7 @@ pub(crate) fn sums_of(tasks: Tasks, jobs: Jobs) -> Summing
 }
 
 // No. 1, 3, 4 and 7, the runs of the current jobs, and zeros past them: the sums of a task side that is right.
+#[tactic(auto, using(crate::proofs::SumLaws::told_wrong, crate::proofs::SumLaws::no_task, crate::proofs::SumLaws::many_tasks, crate::proofs::SumLaws::great_large, crate::proofs::SumLaws::rest_used, crate::proofs::SumLaws::jobs_decide))]
 pub(crate) fn task_sums(tasks: Tasks, jobs: Jobs) -> Summing
     ensures { result ≡ summing (tasks_right tasks jobs) tasks jobs }
 {
@@ -126,6 +127,7 @@ pub(crate) fn task_sums(tasks: Tasks, jobs: Jobs) -> Summing
 }
 
 // H is right: every period divides it, and the quotients have no common divisor but 1.
+#[tactic(auto, unfolding(crate::specs::Parts::great_test))]
 pub(crate) fn great_right(sums: Sums) -> bool
     ensures { result ≡ great_test sums }
 {
