@@ -10,7 +10,6 @@ use lib.Dec.{eqb}
 use lib.ListN.{length, take}
 use lib.Seq.{sets}
 use Rattle.units.specs.declared.Cycles.{Cycles}
-use Rattle.units.specs.Units.{cycles}
 use Rattle.rules.specs.declared.State.{State}
 use Rattle.rules.specs.Words.{total}
 use Rattle.rules.specs.Numbers.{sound}

@@ -9,7 +9,7 @@ use rules::{State, Tally};
 use units::Cycles;
 
 // Whether the run was refused, and the numbers of its last line: so many, in the first places.
-#[derive(Drop)]
+#[derive(Clone, Copy)]
 pub(crate) struct Last {
     pub(crate) refused: bool,
     pub(crate) count: usize,
