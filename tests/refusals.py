@@ -1,29 +1,30 @@
 #!/usr/bin/env python3
-"""Holds each must-fail edit's log to the fact that the edit says it breaks.
+"""Holds what 'rt ci' says of each must-fail edit to the fact that the edit says it breaks.
 
-    python3 tests/refusals.py [REPOSITORY]
+    python3 tests/refusals.py LOG [--write]
 
-An edit's first line is '# refused by FACT: what is wrong', and FACT is one of
+LOG is what 'rt ci' printed. An edit's first line is '# refused by FACT: what is wrong', and FACT is one of
 
-    the contract of F    the function F is not proved, and not only because a function that it calls is not
-    the law L            the proof of the law L has an error of its own
+    the contract of F    the function F is not proved
+    the law L            the proof of the law L has an error
     the statement S      the theorem of the crate whose type is the statement S is not proved
 
-The logs are those that 'rt ci' and 'rt must-fail' leave in target/must-fail. An edit without such a line or without a log,
-a log without the fact, an edit after which the definitions themselves are in error, and one after which a proof file names
-places that are not there are printed. The last line counts them.
+'rt ci' prints the first error of an edit's check. Where that is in the proof of another law, on which the fact rests, the first
+line names it too, as 'FACT, at the law L: ..'. An edit that was not tried or not refused is printed, one that the prover refuses
+only for a name that is gone or by a limit of its own, and one whose first error is at another place than its first line says. The
+last line counts them. --write puts the place that the log has into the first line of those that name another.
 """
 
 import pathlib
 import re
 import sys
 
-FIRST = re.compile(r"# refused by the (contract of|law|statement) (\S+): .")
-ERROR = re.compile(r"\S+:\d+:\d+: error: `([^`]+)`: (.*)")
-FUNCTION = re.compile(r"fn (?:\S+::)?(\w+): (?:not proved$|no proof: )")  # the second where it has no proof file
-UNFIT = "that can be named from here"  # an error of this kind speaks of a proof file's shape,
-BROKEN = re.compile(r"^\S+/specs/\S+: error", re.MULTILINE)  # and one of this kind of a definition's
-AFTER = "was not admitted"  # an error of this kind follows from another one
+ROOT = pathlib.Path(__file__).resolve().parent.parent
+FIRST = re.compile(r"# refused by the (contract of|law|statement) ([^\s,:]+)(?:, at the law (\S+))?: .")
+TOLD = re.compile(r"rt: must-fail (\w+)/(\S+)\.edit: (refused, as it must be(?: \(only[^)]*\))?)(?:: (.*))?$", re.MULTILINE)
+ERROR = re.compile(r"(?:\./)?(?:specs|proofs)/\S+?:\d+:\d+: error: `([^`]+)`")
+NOTE = re.compile(r"note: (src/\S+?):(\d+):\d+: ")
+PROOF = re.compile(r"(?:\./)?proofs/(?:\S+/)?\+?(\w+)/(?:Answers|Invariants)\.antt:")
 
 
 def theorems(crate, statement):
@@ -32,39 +33,45 @@ def theorems(crate, statement):
     return {name for file in crate.glob("proofs/**/*.antt") for name in typed.findall(file.read_text())}
 
 
-def fault(crate, edit, log):
-    """What is wrong with an edit or its log; None where the log has the fact that the edit names."""
-    head = FIRST.match(edit.read_text())
-    if not head:
-        return "its first line names no fact that refuses it"
-    if not log.is_file():
-        return "it was not tried"
-    text = log.read_text(errors="replace")
-    if UNFIT in text or BROKEN.search(text):
-        return "it is refused for its shape"
-    kind, name = head.groups()
-    lines = text.splitlines()
-    if kind == "contract of":
-        facts = {found[1] for found in map(FUNCTION.match, lines) if found}
-    else:
-        errors = [found.groups() for found in map(ERROR.match, lines) if found]
-        facts = {where for where, what in errors if kind == "statement" or AFTER not in what}
-    wanted = theorems(crate, name) if kind == "statement" else {name}
-    if not wanted:
-        return f"no theorem has the type {name}"
-    return None if wanted & facts else f"its log does not have the {kind} {name}, but {', '.join(sorted(facts)) or 'nothing'}"
+def function_at(file, line):
+    """The function of a source file that a line is in."""
+    names = [found[1] for found in (re.match(r"\s*(?:pub(?:\(crate\))? )?(?:extern \"C\" )?fn (\w+)", text) for text in file.read_text().splitlines()[:line]) if found]
+    return names[-1] if names else None
+
+
+def place(crate, said):
+    """The function, or the law, in which the first error of an edit's check is."""
+    note, proof, error = NOTE.match(said), PROOF.match(said), ERROR.match(said)
+    if note:
+        return function_at(crate / note[1], int(note[2]))
+    return proof[1] if proof else error[1] if error else None
 
 
 def main():
-    root = pathlib.Path(sys.argv[1] if len(sys.argv) > 1 else ".")
-    edits = sorted(root.glob("crates/*/must-fail/*.edit"))
+    told = {(found[1], found[2]): (found[3], found[4] or "") for found in TOLD.finditer(pathlib.Path(sys.argv[1]).read_text(errors="replace"))}
+    edits = sorted(ROOT.glob("crates/*/must-fail/*.edit"))
     faults = 0
     for edit in edits:
         crate = edit.parent.parent
-        said = fault(crate, edit, root / "target/must-fail" / crate.name / edit.stem / ".log")
-        if said:
+        text = edit.read_text()
+        head = FIRST.match(text)
+        how, said = told.get((crate.name, edit.stem), ("it was not refused", ""))
+        at = place(crate, said)
+        if not head:
+            fault = "its first line names no fact that refuses it"
+        elif how != "refused, as it must be":
+            fault = how
+        elif at is None:
+            fault = f"no place is told: {said}"
+        else:
+            kind, name, law = head.groups()
+            named = {law} if law else theorems(crate, name) if kind == "statement" else {name}
+            fault = None if at in named else f"its first error is at {at}, and it names {', '.join(sorted(named))}"
+            if fault and "--write" in sys.argv:
+                edit.write_text(re.sub(r"^(# refused by the (?:contract of|law|statement) [^\s,:]+)(?:, at the law \S+?)?: ", rf"\1, at the law {at}: ", text))
+        if fault:
             faults += 1
-            print(f"{crate.name}/{edit.stem}: {said}")
+            print(f"{crate.name}/{edit.stem}: {fault}")
     print(f"{len(edits)} must-fail edits, {len(edits) - faults} refused at the fact that they name")
     return 0 if edits and not faults else 1
 
