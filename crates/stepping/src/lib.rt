@@ -56,7 +56,8 @@ pub fn step(
     step_at(done, tasks, jobs, ladder, tally, place, report, grants)
 }
 
-// A tick from row 13 on, at the place of its speed: the report settled as rule 4 says, what it changes as rule 5 says.
+// A tick from row 13 on, at the place of its speed: the report settled as rule 4 says, what it changes as rule 5 says. A function of its own in the machine code too, so that its arrays are not on the stack while the state is tested.
+#[inline(never)]
 fn step_at(
     done: Ticks,
     tasks: Tasks,
