@@ -23,7 +23,7 @@ ROOT = pathlib.Path(__file__).resolve().parent.parent
 FIRST = re.compile(r"# refused by the (contract of|law|statement) ([^\s,:]+)(?:, at the law (\S+))?: .")
 TOLD = re.compile(r"rt: must-fail (\w+)/(\S+)\.edit: (refused, as it must be(?: \(only[^)]*\))?)(?:: (.*))?$", re.MULTILINE)
 ERROR = re.compile(r"(?:\./)?(?:specs|proofs)/\S+?:\d+:\d+: error: `([^`]+)`")
-NOTE = re.compile(r"note: (src/\S+?):(\d+):\d+: ")
+NOTE = re.compile(r"note: (src/\S+?):(\d+):(\d+): ")
 PROOF = re.compile(r"(?:\./)?proofs/(?:\S+/)?\+?(\w+)/(?:Answers|Invariants)\.antt:")
 
 
@@ -33,17 +33,20 @@ def theorems(crate, statement):
     return {name for file in crate.glob("proofs/**/*.antt") for name in typed.findall(file.read_text())}
 
 
-def function_at(file, line):
-    """The function of a source file that a line is in."""
-    names = [found[1] for found in (re.match(r"\s*(?:pub(?:\(crate\))? )?(?:extern \"C\" )?fn (\w+)", text) for text in file.read_text().splitlines()[:line]) if found]
-    return names[-1] if names else None
+def function_at(file, line, column):
+    """The function of a source file that a place is in; at a line's first column a function with its attributes begins."""
+    begins = re.compile(r"\s*(?:pub(?:\(crate\))? )?(?:extern \"C\" )?fn (\w+)")
+    lines = file.read_text().splitlines()
+    found = [begins.match(text) for text in (lines[line - 1 :] if column == 1 else lines[:line])]
+    names = [match[1] for match in found if match]
+    return (names[0] if column == 1 else names[-1]) if names else None
 
 
 def place(crate, said):
     """The function, or the law, in which the first error of an edit's check is."""
     note, proof, error = NOTE.match(said), PROOF.match(said), ERROR.match(said)
     if note:
-        return function_at(crate / note[1], int(note[2]))
+        return function_at(crate / note[1], int(note[2]), int(note[3]))
     return proof[1] if proof else error[1] if error else None
 
 
