@@ -1,5 +1,5 @@
 -- From the least common multiple of a list's first numbers to that of one number more, and to that of the whole list. Assumes nothing.
-use mathlib.Core.Path.{subst}
+use mathlib.Core.Path.{◌≡◌, subst}
 use mathlib.Core.Bool.{true, false}
 use mathlib.Core.List.{List, []}
 use Prim.Native.Nat.{ℕ, ◌+◌, ◌≤◌, ◌<◌, ◌∣◌}
@@ -57,3 +57,8 @@ module _ (l : List ℕ) (i acc : ℕ) (lt : i < length l) (s : IsLcmOf (take i l
 -- the first numbers are all, at the end
 pub end_is : (l : List ℕ) (i acc : ℕ) → length l ≤ i → IsLcmOf (take i l) acc → IsLcmOf l acc
 end_is l i acc h s = rw (take_all i l h) at s
+
+-- a place that holds 0 is one
+pub zero_found : (l : List ℕ) (k : ℕ) → k < length l → get_or l k 0 ≡ 0 → ZeroIn l true
+unfolding ZeroIn
+zero_found l k h e = (k, h, e)

@@ -35,6 +35,7 @@ pub fn lcm(a: u64, b: u64, cap: u64) -> Multiple
 }
 
 // Whether a number of the list is 0.
+#[tactic(auto, using(crate::proofs::Prefixes::zero_found))]
 fn has_zero(list: &[u64]) -> bool
     ensures { ZeroIn list.now result }
 {

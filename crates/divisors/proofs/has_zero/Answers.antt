@@ -11,10 +11,6 @@ use Rattle.divisors.proofs.has_zero.Goals as goal
 pub loop-i-init : goal.loop-i-init
 loop-i-init c = (omega arith, λ k lt. omega arith)
 
-pub returns-then-list-i-eq0 : goal.returns-then-list-i-eq0
-unfolding ZeroIn
-returns-then-list-i-eq0 c = (c.loop-i.i, c.loop-i-test.true, c.if-list-i-eq0.true)
-
 pub loop-i-preserved : goal.loop-i-preserved
 loop-i-preserved c = (search rules, below_more _ _ c.loop-i.invariant.1 (pos_of_ne-zero c.if-list-i-eq0.false))
 
