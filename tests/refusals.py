@@ -1,30 +1,36 @@
 #!/usr/bin/env python3
-"""Holds what 'rt ci' says of each must-fail edit to the fact that the edit says it breaks.
+"""Holds what the prover says of each must-fail edit to the fact that the edit says it breaks.
 
-    python3 tests/refusals.py LOG [--write]
+    python3 tests/refusals.py LOG [CRATE/EDIT..]
 
 LOG is what 'rt ci' printed. An edit's first line is '# refused by FACT: what is wrong', and FACT is one of
 
-    the contract of F    the function F is not proved
-    the law L            the proof of the law L has an error
+    the contract of F    the function F is not proved, and not only because a function that it calls is not
+    the law L            the proof of the law L has an error of its own
     the statement S      the theorem of the crate whose type is the statement S is not proved
 
-'rt ci' prints the first error of an edit's check. Where that is in the proof of another law, on which the fact rests, the first
-line names it too, as 'FACT, at the law L: ..'. An edit that was not tried or not refused is printed, one that the prover refuses
-only for a name that is gone or by a limit of its own, and one whose first error is at another place than its first line says. The
-last line counts them. --write puts the place that the log has into the first line of those that name another.
+Of an edit 'rt ci' prints the first error, or that only names are gone, or that the prover met a limit of its own; the last two
+show nothing. Where the first error is at another place than FACT, as in a law before it, the edit is tried here once more, in a
+copy of the repository, and what 'rt check' says of the crate has to have the fact. An edit that was not tried or not refused,
+one that shows nothing, and one whose fact is not there are printed. The last line counts them.
 """
 
 import pathlib
 import re
+import shutil
+import subprocess
 import sys
+import tempfile
 
 ROOT = pathlib.Path(__file__).resolve().parent.parent
-FIRST = re.compile(r"# refused by the (contract of|law|statement) ([^\s,:]+)(?:, at the law (\S+))?: .")
+FIRST = re.compile(r"# refused by the (contract of|law|statement) ([^\s:]+): .")
 TOLD = re.compile(r"rt: must-fail (\w+)/(\S+)\.edit: (refused, as it must be(?: \(only[^)]*\))?)(?:: (.*))?$", re.MULTILINE)
 ERROR = re.compile(r"(?:\./)?(?:specs|proofs)/\S+?:\d+:\d+: error: `([^`]+)`")
 NOTE = re.compile(r"note: (src/\S+?):(\d+):(\d+): ")
 PROOF = re.compile(r"(?:\./)?proofs/(?:\S+/)?\+?(\w+)/(?:Answers|Invariants)\.antt:")
+FUNCTION = re.compile(r"fn (?:\S+::)?(\w+): (?:not proved$|no proof: (?!it calls))")
+WAITS = re.compile(r"error: \d+ declarations? that depends? on `[^`]*`, which was \w[\w ]*, (?:was|were) not checked: (.*)")
+PAIR = re.compile(r"^(file|old|new): ?(.*)$", re.MULTILINE)
 
 
 def theorems(crate, statement):
@@ -42,7 +48,7 @@ def function_at(file, line, column):
     return (names[0] if column == 1 else names[-1]) if names else None
 
 
-def place(crate, said):
+def first_place(crate, said):
     """The function, or the law, in which the first error of an edit's check is."""
     note, proof, error = NOTE.match(said), PROOF.match(said), ERROR.match(said)
     if note:
@@ -50,31 +56,89 @@ def place(crate, said):
     return proof[1] if proof else error[1] if error else None
 
 
+def facts(kind, text):
+    """The functions that are not proved, or the laws and theorems with an error, in all that a check says of a crate."""
+    if kind == "contract of":
+        return {found[1] for found in map(FUNCTION.match, text.splitlines()) if found}
+    found = set(ERROR.findall(text))
+    if kind == "statement":
+        found |= {name.strip() for names in WAITS.findall(text) for name in re.split(r",| and ", names)}
+    return found
+
+
+def applied(edit, crate):
+    """Applies an edit to a copy of its crate; gives the texts that stood there before."""
+    before, path, old = {}, None, None
+    for word, text in PAIR.findall(edit.read_text()):
+        if word == "file":
+            path = crate / text.strip()
+            before.setdefault(path, path.read_text())
+        elif word == "old":
+            old = text
+        else:
+            path.write_text(path.read_text().replace(old, text))
+    return before
+
+
+class Copy:
+    """A copy of the repository, made at the first edit that is tried in it."""
+
+    def __init__(self):
+        self.root = None
+
+    def check(self, edit):
+        """What 'rt check' says of the edit's crate with the edit."""
+        if not self.root:
+            self.root = pathlib.Path(tempfile.mkdtemp())
+            shutil.copytree(ROOT / "crates", self.root / "crates")
+            shutil.copy(ROOT / "crates.txt", self.root)
+            subprocess.run(["git", "init", "-q", "."], cwd=self.root, check=True)
+        crate = self.root / "crates" / edit.parent.parent.name
+        before = applied(edit, crate)
+        try:
+            return subprocess.run(["rt", "check"], cwd=crate, stdout=subprocess.PIPE, stderr=subprocess.STDOUT, text=True, errors="replace").stdout
+        finally:
+            for path, text in before.items():
+                path.write_text(text)
+
+    def remove(self):
+        if self.root:
+            shutil.rmtree(self.root, ignore_errors=True)
+
+
+def fault(edit, how, said, copy):
+    """What is wrong with an edit, or None where it is refused at the fact that it names."""
+    crate = edit.parent.parent
+    head = FIRST.match(edit.read_text())
+    if not head:
+        return "its first line names no fact that refuses it"
+    if how != "refused, as it must be":
+        return how
+    kind, name = head.groups()
+    wanted = theorems(crate, name) if kind == "statement" else {name}
+    if not wanted:
+        return f"no theorem has the type {name}"
+    if first_place(crate, said) in wanted:
+        return None
+    found = facts(kind, copy.check(edit))
+    return None if wanted & found else f"nothing says that the {kind} {name} falls, but {', '.join(sorted(found)) or 'nothing'}"
+
+
 def main():
     told = {(found[1], found[2]): (found[3], found[4] or "") for found in TOLD.finditer(pathlib.Path(sys.argv[1]).read_text(errors="replace"))}
     edits = sorted(ROOT.glob("crates/*/must-fail/*.edit"))
-    faults = 0
-    for edit in edits:
-        crate = edit.parent.parent
-        text = edit.read_text()
-        head = FIRST.match(text)
-        how, said = told.get((crate.name, edit.stem), ("it was not refused", ""))
-        at = place(crate, said)
-        if not head:
-            fault = "its first line names no fact that refuses it"
-        elif how != "refused, as it must be":
-            fault = how
-        elif at is None:
-            fault = f"no place is told: {said}"
-        else:
-            kind, name, law = head.groups()
-            named = {law} if law else theorems(crate, name) if kind == "statement" else {name}
-            fault = None if at in named else f"its first error is at {at}, and it names {', '.join(sorted(named))}"
-            if fault and "--write" in sys.argv:
-                edit.write_text(re.sub(r"^(# refused by the (?:contract of|law|statement) [^\s,:]+)(?:, at the law \S+?)?: ", rf"\1, at the law {at}: ", text))
-        if fault:
-            faults += 1
-            print(f"{crate.name}/{edit.stem}: {fault}")
+    if sys.argv[2:]:
+        edits = [edit for edit in edits if f"{edit.parent.parent.name}/{edit.stem}" in sys.argv[2:]]
+    faults, copy = 0, Copy()
+    try:
+        for edit in edits:
+            key = (edit.parent.parent.name, edit.stem)
+            wrong = fault(edit, *told.get(key, ("it was not refused", "")), copy)
+            if wrong:
+                faults += 1
+                print(f"{key[0]}/{key[1]}: {wrong}", flush=True)
+    finally:
+        copy.remove()
     print(f"{len(edits)} must-fail edits, {len(edits) - faults} refused at the fact that they name")
     return 0 if edits and not faults else 1
 
