@@ -9,7 +9,7 @@ LOG is what 'rt ci' printed. An edit's first line is '# refused by FACT: what is
     the law L            the proof of the law L has an error of its own
     the statement S      the theorem of the crate whose type is the statement S is not proved
 
-Of an edit 'rt ci' prints the first error, or that only names are gone, or that the prover met a limit of its own; the last two
+Of an edit 'rt ci' prints the first error, or that only names are gone, or that a limit left it without a verdict; the last two
 show nothing. Where the first error is at another place than FACT, as in a law before it, the edit is tried here once more, in a
 copy of the repository, and what 'rt check' says of the crate has to have the fact. An edit that was not tried or not refused,
 one that shows nothing, and one whose fact is not there are printed. The last line counts them.
