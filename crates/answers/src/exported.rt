@@ -4,8 +4,7 @@ ghost use Rattle.piszczalin.specs.Plain.{plain_state_of, plain_of};
 ghost use Rattle.piszczalin.specs.Calls.{plain_started, plain_ticked};
 
 use crate::calls::TwoUsed;
-use piszczalin::ticks::PlainStepped;
-use piszczalin::{PlainStarted, PlainState, PlainTicked, PlainTold, ticks};
+use piszczalin::{PlainStarted, PlainState, PlainTicked, PlainTold};
 use rules::{Started, State, Ticked, Told};
 
 #[derive(Drop)]
@@ -36,12 +35,6 @@ pub(crate) struct TwoPlainStarted {
 pub(crate) struct TwoPlainTold {
     pub(crate) first: PlainTold,
     pub(crate) second: PlainTold,
-}
-
-#[derive(Drop)]
-pub(crate) struct TwoPlainStepped {
-    pub(crate) first: PlainStepped,
-    pub(crate) second: PlainStepped,
 }
 
 #[derive(Drop)]
@@ -139,22 +132,6 @@ pub(crate) fn tick_twice(
     TwoPlainTicked {
         first: piszczalin::piszczalin_tick(state, report, grants),
         second: piszczalin::piszczalin_tick(state, report, again),
-    }
-}
-
-// The parts of a tick, of which the static library puts its answer together.
-pub(crate) fn stepped_twice(
-    state: PlainState,
-    report: &[u64],
-    grants: &mut [u64],
-    again: &mut [u64],
-) -> TwoPlainStepped
-    requires { grants.old ≡ again.old }
-    ensures { (result.first ≡ result.second) × (grants.new ≡ again.new) }
-{
-    TwoPlainStepped {
-        first: ticks::stepped(state, report, grants),
-        second: ticks::stepped(state, report, again),
     }
 }
 

@@ -4,7 +4,7 @@
 
 mod choices;
 mod marks;
-pub mod ticks;
+mod ticks;
 
 ghost use Rattle.std.specs.Prelude.{◌≡◌, length};
 ghost use Rattle.piszczalin.specs.Calls.{plain_start, plain_now, plain_tick, plain_grants, plain_energy};

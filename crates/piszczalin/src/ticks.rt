@@ -9,15 +9,15 @@ use units::Ticks;
 
 // What a tick answers of a plain state: its number, and all that it can change; refused, as it was.
 #[derive(Drop)]
-pub struct PlainStepped {
-    pub number: u64,
-    pub done: Ticks,
-    pub jobs: PlainJobs,
-    pub tally: Tally,
+pub(crate) struct PlainStepped {
+    pub(crate) number: u64,
+    pub(crate) done: Ticks,
+    pub(crate) jobs: PlainJobs,
+    pub(crate) tally: Tally,
 }
 
 // A tick of a plain state by a report, each task's cycles written to the grants list; refused (9 to 13), all as it was.
-pub fn stepped(state: PlainState, report: &[u64], grants: &mut [u64]) -> PlainStepped
+pub(crate) fn stepped(state: PlainState, report: &[u64], grants: &mut [u64]) -> PlainStepped
     ensures { (result ≡ plain_step state report.now (length grants.old))
         × (grants.new ≡ plain_grants state report.now grants.old) }
 {

@@ -1,10 +1,10 @@
-// The static library: the boundary's four calls under their names for C, each with the clauses of the boundary's own.
+// The static library: the boundary's four calls under their names for C, each with the clauses of the call that it makes.
 #![tactic(auto)]
 
 ghost use Rattle.std.specs.Prelude.{◌≡◌, length};
 ghost use Rattle.piszczalin.specs.Calls.{plain_start, plain_now, plain_tick, plain_grants, plain_energy};
 
-use piszczalin::{PlainStarted, PlainState, PlainTicked, PlainTold, ticks};
+use piszczalin::{PlainStarted, PlainState, PlainTicked, PlainTold};
 use rules::Used;
 
 // start: from lent lists to 0 and the fresh state, or to the smallest number of 1 to 8 that applies and the all-zero state.
@@ -38,22 +38,7 @@ pub extern "C" fn piszczalin_tick(
     ensures { (result ≡ plain_tick state report.now (length grants.old))
         × (grants.new ≡ plain_grants state report.now grants.old) }
 {
-    let step = ticks::stepped(state, report, grants);
-    let done = step.done;
-    let tasks = state.tasks;
-    let jobs = step.jobs;
-    let ladder = state.ladder;
-    let tally = step.tally;
-    PlainTicked {
-        number: step.number,
-        state: PlainState {
-            done: done,
-            tasks: tasks,
-            jobs: jobs,
-            ladder: ladder,
-            tally: tally,
-        },
-    }
+    piszczalin::piszczalin_tick(state, report, grants)
 }
 
 // energy: from any state to the sum over speeds of count x volts x volts; refused (9), 0.
