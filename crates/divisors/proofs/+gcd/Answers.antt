@@ -1,5 +1,4 @@
 -- `gcd` meets its contract: a division keeps the greatest common divisor, and the second number, which is the measure, falls to 0. Assumes nothing.
-use Prim.Native.Nat.{ℕ, ◌<◌}
 use native.Mathlib.Nat.{mod-lt, pos_of_ne-zero}
 use native.Mathlib.Omega.{arith}
 use Rattle.divisors.proofs.DivisorLaws.{gcd-zero, gcd_step}

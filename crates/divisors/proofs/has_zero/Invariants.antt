@@ -1,11 +1,6 @@
 -- `has_zero` meets its contract: the loop keeps that every number passed is above 0. Assumes nothing.
 use Prim.Native.Nat.{ℕ, ◌≤◌, ◌<◌, ◌-◌}
-use native.Mathlib.Nat.{pos_of_ne-zero}
-use native.Mathlib.Omega.{arith}
-use borrow.Author.Count.{below_more}
-use borrow.Author.Rules.{rules}
 use lib.ListN.{length, get_or}
-use Rattle.divisors.specs.Divisors.{ZeroIn}
 use Rattle.divisors.proofs.has_zero.Given as goal
 
 abbrev pub invariant-loop-i : goal.invariant-loop-i

@@ -1,7 +1,6 @@
 -- `lcm` meets its contract: the multiple is the quotient by the greatest common divisor times b, so it is above the cap just where the quotient is above cap / b. Assumes nothing.
 use native.Mathlib.Nat.{pos_of_ne-zero, pos_of_dvd_of_pos, lt_of_le_of_lt}
 use native.Mathlib.Omega.{arith}
-use borrow.Author.Rules.{rules}
 use Rattle.divisors.specs.Divisors.{Capped}
 use Rattle.divisors.proofs.DivisorLaws.{lcm-zero_left, lcm-zero_right}
 use Rattle.divisors.proofs.Caps.{product_within, product_is, product_above}
