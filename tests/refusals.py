@@ -11,8 +11,9 @@ LOG is what 'rt ci' printed. An edit's first line is '# refused by FACT: what is
 
 Of an edit 'rt ci' prints the first error, or that only names are gone, or that a limit left it without a verdict; the last two
 show nothing. Where the first error is at another place than FACT, as in a law before it, the edit is tried here once more, in a
-copy of the repository, and what 'rt check' says of the crate has to have the fact. An edit that was not tried or not refused,
-one that shows nothing, and one whose fact is not there are printed. The last line counts them.
+copy of the repository, and what 'rt check' says of the crate has to have the fact. So is one that leaves a goal of F open, where
+F has answers: if one of them names what the edit took away, the goal may be open for its name alone. An edit that was not tried
+or not refused, one that shows nothing, and one whose fact is not there are printed. The last line counts them.
 """
 
 import pathlib
@@ -64,6 +65,11 @@ def facts(kind, text):
     if kind == "statement":
         found |= {name.strip() for names in WAITS.findall(text) for name in re.split(r",| and ", names)}
     return found
+
+
+def is_renamed(name, text):
+    """Whether a proof file of a function names what is not there, in all that a check says."""
+    return bool(re.search(rf"proofs/(?:\S+/)?\+?{name}/\w+\.antt:\d+:\d+: error: .*(?:has no field|can be named from here|is not in scope)", text))
 
 
 def applied(edit, crate):
@@ -119,7 +125,8 @@ def fault(edit, how, said, copy):
     if not wanted:
         return f"no theorem has the type {name}"
     if first_place(crate, said) in wanted:
-        return None
+        answered = said.startswith("note: ") and any(file.parent.name.lstrip("+") == name for file in crate.glob("proofs/**/Answers.antt"))
+        return "a goal is open, and an answer names what is gone" if answered and is_renamed(name, copy.check(edit)) else None
     found = facts(kind, copy.check(edit))
     return None if wanted & found else f"nothing says that the {kind} {name} falls, but {', '.join(sorted(found)) or 'nothing'}"
 
