@@ -159,8 +159,9 @@ def layout(structs, name, done):
     if name not in structs:
         die(f'the type {name} is not among the structs')
     marks, fields = structs[name]
-    if sorted(marks) != ['#[derive(Clone,Copy)]', '#[repr(C)]']:
-        die(f'struct {name} goes over the boundary, and its attributes are {marks}, not #[repr(C)] and #[derive(Clone, Copy)] alone')
+    derived = [m for m in marks if re.fullmatch(r'#\[derive\(Clone,Copy(,\w+)*\)\]', m)]
+    if len(marks) != 2 or len(derived) != 1 or '#[repr(C)]' not in marks:
+        die(f'struct {name} goes over the boundary, and its attributes are {marks}, not #[repr(C)] and a derive of Clone, Copy and others alone')
     end, most, lines = 0, 1, []
     for field, (kind, length) in fields:
         size, align = layout(structs, kind, done)

@@ -3,25 +3,11 @@ use mathlib.Core.Path.{◌≡◌}
 use mathlib.Core.Bool.{true, false}
 use mathlib.Core.List.{List}
 use Prim.Native.Nat.{ℕ, ◌+◌, ◌≤◌, ◌<◌}
-use lib.Dec.{eqb}
 use lib.ListN.{length, get_or, drop, drop_of_length-le}
 use borrow.Author.Tests.{le-leb, lt-leb}
-use Rattle.rules.specs.Numbers.{same_count, climbs_from}
+use Rattle.rules.specs.Numbers.{climbs_from}
 use Rattle.rules.proofs.Lists.{rest_cons}
 use Rattle.rules.proofs.Ranges.{in_range, too_low, too_high}
-
--- `counts_match`: too few, too many, or as the second list says
-pub none_match : (most : ℕ) (xs ys : List ℕ) → length xs < 1 → false ≡ same_count most xs ys
-unfolding same_count
-none_match most xs ys h = rw (too_low most (length xs) h)
-
-pub many_match : (most : ℕ) (xs ys : List ℕ) → 1 ≤ length xs → most < length xs → false ≡ same_count most xs ys
-unfolding same_count
-many_match most xs ys a h = rw (too_high most (length xs) a h)
-
-pub some_match : (most : ℕ) (xs ys : List ℕ) → 1 ≤ length xs → length xs ≤ most → eqb (length ys) (length xs) ≡ same_count most xs ys
-unfolding same_count
-some_match most xs ys a h = rw (in_range most (length xs) a h)
 
 -- `climbs` from a place: it goes on with the number there, stops for one of three reasons, or ends
 module _ (most gap before : ℕ) (l : List ℕ) (i : ℕ) where

@@ -1,5 +1,7 @@
 -- What admission's private functions answer and ask: nothing here is part of what it promises to callers.
-use Rattle.std.specs.Prelude.{ℕ, ◌≤◌, ◌≡◌, true, List, length}
+use Rattle.std.specs.Prelude.{ℕ, ◌≤◌, ◌≡◌, true, List, length, Result, Ok, Err, ⊤}
+use Rattle.refusals.specs.declared.Refusal.{Refusal}
+use Rattle.refusals.specs.Refusals.{number_of}
 use Rattle.units.specs.Units.{cycles}
 use Rattle.units.specs.declared.Ticks.{Ticks}
 use Rattle.units.specs.declared.Cycles.{Cycles}
@@ -20,7 +22,7 @@ pub record Summable (periods reserves : List ℕ) (great : Ticks) : Type 0 where
   pub reserves_allowed : every (up_to_most most_reserve) reserves ≡ true
   pub small : great.0 ≤ most_great
 
--- an answer of 1 to 6 is start's number, and with 0 tests 1 to 6 pass
-pub record Formed (periods reserves speeds volts : List ℕ) (number : ℕ) : Type 0 where
-  pub refused : (number ≡ 0 → ⊥) → start_number periods reserves speeds volts ≡ number
-  pub passed : number ≡ 0 → Forms periods reserves speeds volts
+-- a refusal's number, 1 to 6, is start's, and without one tests 1 to 6 pass
+abbrev pub Formed : List ℕ → List ℕ → List ℕ → List ℕ → Result ⊤ Refusal → Type 0
+Formed periods reserves speeds volts (Ok _) = Forms periods reserves speeds volts
+Formed periods reserves speeds volts (Err r) = start_number periods reserves speeds volts ≡ number_of r

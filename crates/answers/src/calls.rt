@@ -1,66 +1,46 @@
 // The governor's calls.
 ghost use Rattle.std.specs.Prelude.{◌≡◌};
 
-use rules::{Started, State, Ticked, Told, Used};
+use refusals::Refusal;
+use rules::{Advice, State};
 
-#[derive(Drop)]
-pub(crate) struct TwoStarted {
-    pub(crate) first: Started,
-    pub(crate) second: Started,
-}
-
-#[derive(Drop)]
-pub(crate) struct TwoTold {
-    pub(crate) first: Told,
-    pub(crate) second: Told,
-}
-
-#[derive(Drop)]
-pub(crate) struct TwoTicked {
-    pub(crate) first: Ticked,
-    pub(crate) second: Ticked,
-}
-
-#[derive(Drop)]
-pub(crate) struct TwoUsed {
-    pub(crate) first: Used,
-    pub(crate) second: Used,
-}
-
-pub(crate) fn start(periods: &[u64], reserves: &[u64], speeds: &[u64], volts: &[u64]) -> TwoStarted
-    ensures { result.first ≡ result.second }
+pub(crate) fn start(
+    periods: &[u64],
+    reserves: &[u64],
+    speeds: &[u64],
+    volts: &[u64],
+) -> (Result<State, Refusal>, Result<State, Refusal>)
+    ensures { result.0 ≡ result.1 }
 {
-    TwoStarted {
-        first: governor::start(periods, reserves, speeds, volts),
-        second: governor::start(periods, reserves, speeds, volts),
-    }
+    let first = governor::start(periods, reserves, speeds, volts);
+    (first, governor::start(periods, reserves, speeds, volts))
 }
 
-pub(crate) fn now(state: State) -> TwoTold
-    ensures { result.first ≡ result.second }
+pub(crate) fn now(state: State) -> (Result<Advice, Refusal>, Result<Advice, Refusal>)
+    ensures { result.0 ≡ result.1 }
 {
-    TwoTold {
-        first: governor::now(state),
-        second: governor::now(state),
-    }
+    (governor::now(state), governor::now(state))
 }
 
 // Two grants lists that are equal before the calls are equal after them.
-pub(crate) fn tick(state: State, report: &[u64], grants: &mut [u64], again: &mut [u64]) -> TwoTicked
+#[tactic(auto, using(crate::proofs::One::one_tick))]
+pub(crate) fn tick(
+    state: State,
+    report: &[u64],
+    grants: &mut [u64],
+    again: &mut [u64],
+) -> (Result<State, Refusal>, Result<State, Refusal>)
     requires { grants.old ≡ again.old }
-    ensures { (result.first ≡ result.second) × (grants.new ≡ again.new) }
+    ensures { (result.0 ≡ result.1) × (grants.new ≡ again.new) }
 {
-    TwoTicked {
-        first: governor::tick(state, report, grants),
-        second: governor::tick(state, report, again),
-    }
+    (
+        governor::tick(state, report, grants),
+        governor::tick(state, report, again),
+    )
 }
 
-pub(crate) fn energy(state: State) -> TwoUsed
-    ensures { result.first ≡ result.second }
+pub(crate) fn energy(state: State) -> (Result<u64, Refusal>, Result<u64, Refusal>)
+    ensures { result.0 ≡ result.1 }
 {
-    TwoUsed {
-        first: governor::energy(state),
-        second: governor::energy(state),
-    }
+    (governor::energy(state), governor::energy(state))
 }

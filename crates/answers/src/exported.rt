@@ -1,47 +1,12 @@
 // The boundary's calls: each beside the governor's own, for a state and its plain form, and each made twice with any input.
 ghost use Rattle.std.specs.Prelude.{◌≡◌};
-ghost use Rattle.piszczalin.specs.Plain.{plain_state_of, plain_of};
+ghost use Rattle.rules.specs.Calls.{started_by, told_by, ticked_by, used_by};
+ghost use Rattle.piszczalin.specs.Plain.{plain_state_of, plain_of, plain_used};
 ghost use Rattle.piszczalin.specs.Calls.{plain_started, plain_ticked};
 
-use crate::calls::TwoUsed;
-use piszczalin::{PlainStarted, PlainState, PlainTicked, PlainTold};
-use rules::{Started, State, Ticked, Told};
-
-#[derive(Drop)]
-pub(crate) struct StartedTwice {
-    pub(crate) first: Started,
-    pub(crate) second: PlainStarted,
-}
-
-#[derive(Drop)]
-pub(crate) struct ToldTwice {
-    pub(crate) first: Told,
-    pub(crate) second: PlainTold,
-}
-
-#[derive(Drop)]
-pub(crate) struct TickedTwice {
-    pub(crate) first: Ticked,
-    pub(crate) second: PlainTicked,
-}
-
-#[derive(Drop)]
-pub(crate) struct TwoPlainStarted {
-    pub(crate) first: PlainStarted,
-    pub(crate) second: PlainStarted,
-}
-
-#[derive(Drop)]
-pub(crate) struct TwoPlainTold {
-    pub(crate) first: PlainTold,
-    pub(crate) second: PlainTold,
-}
-
-#[derive(Drop)]
-pub(crate) struct TwoPlainTicked {
-    pub(crate) first: PlainTicked,
-    pub(crate) second: PlainTicked,
-}
+use piszczalin::{PlainStarted, PlainState, PlainTicked, PlainTold, PlainUsed};
+use refusals::Refusal;
+use rules::{Advice, State};
 
 // Beside the governor's own.
 pub(crate) fn exported_start(
@@ -49,23 +14,20 @@ pub(crate) fn exported_start(
     reserves: &[u64],
     speeds: &[u64],
     volts: &[u64],
-) -> StartedTwice
-    ensures { plain_started result.first ≡ result.second }
+) -> (Result<State, Refusal>, PlainStarted)
+    ensures { plain_started (started_by result.0) ≡ result.1 }
 {
-    StartedTwice {
-        first: governor::start(periods, reserves, speeds, volts),
-        second: piszczalin::piszczalin_start(periods, reserves, speeds, volts),
-    }
+    (
+        governor::start(periods, reserves, speeds, volts),
+        piszczalin::piszczalin_start(periods, reserves, speeds, volts),
+    )
 }
 
-pub(crate) fn exported_now(state: State, plain: PlainState) -> ToldTwice
+pub(crate) fn exported_now(state: State, plain: PlainState) -> (Result<Advice, Refusal>, PlainTold)
     requires { plain ≡ plain_state_of state }
-    ensures { plain_of result.first ≡ result.second }
+    ensures { plain_of (told_by result.0) ≡ result.1 }
 {
-    ToldTwice {
-        first: governor::now(state),
-        second: piszczalin::piszczalin_now(plain),
-    }
+    (governor::now(state), piszczalin::piszczalin_now(plain))
 }
 
 // Two grants lists that are equal before the calls are equal after them.
@@ -75,24 +37,24 @@ pub(crate) fn exported_tick(
     report: &[u64],
     grants: &mut [u64],
     again: &mut [u64],
-) -> TickedTwice
+) -> (Result<State, Refusal>, PlainTicked)
     requires { (plain ≡ plain_state_of state) × (grants.old ≡ again.old) }
-    ensures { (plain_ticked result.first ≡ result.second) × (grants.new ≡ again.new) }
+    ensures { (plain_ticked (ticked_by state result.0) ≡ result.1) × (grants.new ≡ again.new) }
 {
-    TickedTwice {
-        first: governor::tick(state, report, grants),
-        second: piszczalin::piszczalin_tick(plain, report, again),
-    }
+    (
+        governor::tick(state, report, grants),
+        piszczalin::piszczalin_tick(plain, report, again),
+    )
 }
 
-pub(crate) fn exported_energy(state: State, plain: PlainState) -> TwoUsed
+pub(crate) fn exported_energy(state: State, plain: PlainState) -> (Result<u64, Refusal>, PlainUsed)
     requires { plain ≡ plain_state_of state }
-    ensures { result.first ≡ result.second }
+    ensures { plain_used (used_by result.0) ≡ result.1 }
 {
-    TwoUsed {
-        first: governor::energy(state),
-        second: piszczalin::piszczalin_energy(plain),
-    }
+    (
+        governor::energy(state),
+        piszczalin::piszczalin_energy(plain),
+    )
 }
 
 // Twice, for any input: a state may be any bytes.
@@ -101,22 +63,22 @@ pub(crate) fn start_twice(
     reserves: &[u64],
     speeds: &[u64],
     volts: &[u64],
-) -> TwoPlainStarted
-    ensures { result.first ≡ result.second }
+) -> (PlainStarted, PlainStarted)
+    ensures { result.0 ≡ result.1 }
 {
-    TwoPlainStarted {
-        first: piszczalin::piszczalin_start(periods, reserves, speeds, volts),
-        second: piszczalin::piszczalin_start(periods, reserves, speeds, volts),
-    }
+    (
+        piszczalin::piszczalin_start(periods, reserves, speeds, volts),
+        piszczalin::piszczalin_start(periods, reserves, speeds, volts),
+    )
 }
 
-pub(crate) fn now_twice(state: PlainState) -> TwoPlainTold
-    ensures { result.first ≡ result.second }
+pub(crate) fn now_twice(state: PlainState) -> (PlainTold, PlainTold)
+    ensures { result.0 ≡ result.1 }
 {
-    TwoPlainTold {
-        first: piszczalin::piszczalin_now(state),
-        second: piszczalin::piszczalin_now(state),
-    }
+    (
+        piszczalin::piszczalin_now(state),
+        piszczalin::piszczalin_now(state),
+    )
 }
 
 // Two grants lists that are equal before the calls are equal after them.
@@ -125,21 +87,21 @@ pub(crate) fn tick_twice(
     report: &[u64],
     grants: &mut [u64],
     again: &mut [u64],
-) -> TwoPlainTicked
+) -> (PlainTicked, PlainTicked)
     requires { grants.old ≡ again.old }
-    ensures { (result.first ≡ result.second) × (grants.new ≡ again.new) }
+    ensures { (result.0 ≡ result.1) × (grants.new ≡ again.new) }
 {
-    TwoPlainTicked {
-        first: piszczalin::piszczalin_tick(state, report, grants),
-        second: piszczalin::piszczalin_tick(state, report, again),
-    }
+    (
+        piszczalin::piszczalin_tick(state, report, grants),
+        piszczalin::piszczalin_tick(state, report, again),
+    )
 }
 
-pub(crate) fn energy_twice(state: PlainState) -> TwoUsed
-    ensures { result.first ≡ result.second }
+pub(crate) fn energy_twice(state: PlainState) -> (PlainUsed, PlainUsed)
+    ensures { result.0 ≡ result.1 }
 {
-    TwoUsed {
-        first: piszczalin::piszczalin_energy(state),
-        second: piszczalin::piszczalin_energy(state),
-    }
+    (
+        piszczalin::piszczalin_energy(state),
+        piszczalin::piszczalin_energy(state),
+    )
 }

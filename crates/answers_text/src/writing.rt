@@ -2,62 +2,36 @@
 ghost use Rattle.std.specs.Prelude.{◌≡◌};
 
 use player::Played;
-use printout::Printed;
 
-#[derive(Drop)]
-pub(crate) struct TwoEnds {
-    pub(crate) first: usize,
-    pub(crate) second: usize,
-}
-
-#[derive(Drop)]
-pub(crate) struct TwoPlayed {
-    pub(crate) first: Played,
-    pub(crate) second: Played,
-}
-
-#[derive(Drop)]
-pub(crate) struct TwoPrinted {
-    pub(crate) first: Printed,
-    pub(crate) second: Printed,
-}
-
-pub(crate) fn put_word(out: &mut [u8], again: &mut [u8], at: usize, word: &[u8]) -> TwoEnds
+pub(crate) fn put_word(out: &mut [u8], again: &mut [u8], at: usize, word: &[u8]) -> (usize, usize)
     requires { out.old ≡ again.old }
-    ensures { (result.first ≡ result.second) × (out.new ≡ again.new) }
+    ensures { (result.0 ≡ result.1) × (out.new ≡ again.new) }
 {
-    TwoEnds {
-        first: words::put(out, at, word),
-        second: words::put(again, at, word),
-    }
+    (words::put(out, at, word), words::put(again, at, word))
 }
 
-pub(crate) fn put_number(out: &mut [u8], again: &mut [u8], at: usize, n: u64) -> TwoEnds
+pub(crate) fn put_number(out: &mut [u8], again: &mut [u8], at: usize, n: u64) -> (usize, usize)
     requires { out.old ≡ again.old }
-    ensures { (result.first ≡ result.second) × (out.new ≡ again.new) }
+    ensures { (result.0 ≡ result.1) × (out.new ≡ again.new) }
 {
-    TwoEnds {
-        first: decimal::put(out, at, n),
-        second: decimal::put(again, at, n),
-    }
+    (decimal::put(out, at, n), decimal::put(again, at, n))
 }
 
-pub(crate) fn play(text: &[u8], rows: &mut [u64], again: &mut [u64]) -> TwoPlayed
+#[tactic(auto, using(player::proofs::Answered::played_one))]
+pub(crate) fn play(
+    text: &[u8],
+    rows: &mut [u64],
+    again: &mut [u64],
+) -> (Option<Played>, Option<Played>)
     requires { rows.old ≡ again.old }
-    ensures { (result.first ≡ result.second) × (rows.new ≡ again.new) }
+    ensures { (result.0 ≡ result.1) × (rows.new ≡ again.new) }
 {
-    TwoPlayed {
-        first: player::play(text, rows),
-        second: player::play(text, again),
-    }
+    (player::play(text, rows), player::play(text, again))
 }
 
-pub(crate) fn print(text: &[u8], out: &mut [u8], again: &mut [u8]) -> TwoPrinted
+pub(crate) fn print(text: &[u8], out: &mut [u8], again: &mut [u8]) -> (Option<usize>, Option<usize>)
     requires { out.old ≡ again.old }
-    ensures { (result.first ≡ result.second) × (out.new ≡ again.new) }
+    ensures { (result.0 ≡ result.1) × (out.new ≡ again.new) }
 {
-    TwoPrinted {
-        first: printout::print(text, out),
-        second: printout::print(text, again),
-    }
+    (printout::print(text, out), printout::print(text, again))
 }

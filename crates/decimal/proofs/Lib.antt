@@ -3,3 +3,4 @@ pub mod ReadBack
 mod Backwards
 mod Reading
 mod Spelling
+mod Counting

@@ -9,8 +9,9 @@ use borrow.Author.Tests.{lt-ltb, ltb-true, lt-leb}
 use lib.Dec.{lit<}
 use lib.ListN.{length, drop}
 use lib.Seq.{drop-append_seam, drop-drop}
-use Rattle.decimal.specs.declared.Field.TheVariants.{Number, NoNumber}
-use Rattle.decimal.specs.Decimal.{is_digit, digits, value_of, no_leading_zero, fits64, field_at, digits_of, decimal_of}
+use Rattle.std.specs.Prelude.{None}
+use Rattle.decimal.specs.declared.Number.{Number}
+use Rattle.decimal.specs.Decimal.{is_digit, digits, value_of, no_leading_zero, fits64, read_number, field_at, digits_of, decimal_of}
 use Rattle.decimal.proofs.Written.{one_digit}
 use Rattle.decimal.proofs.Reading.{no_digit, zero_first}
 use Rattle.decimal.proofs.Spelling.{digit_is, digits_cons, digits_append, digits_twice, digits_front, written_digits, written_value, written_form, value_floor, written_on}
@@ -36,12 +37,12 @@ unfolding decimal_of
 written_number n h = written_value 20 n (omega arith)
 
 -- a number that stands written at a place, with no digit after it, is read there, with the place after it
-pub read_at : (text : List ℕ) (at n : ℕ) (rest : List ℕ) → drop at text ≡ decimal_of n ++ rest → n < 2 ^ 64 → digits rest ≡ [] → field_at text at ≡ Number n (at + length (decimal_of n))
+pub read_at : (text : List ℕ) (at n : ℕ) (rest : List ℕ) → drop at text ≡ decimal_of n ++ rest → n < 2 ^ 64 → digits rest ≡ [] → field_at text at ≡ read_number n (at + length (decimal_of n))
 unfolding field_at fits64
 read_at text at n rest here h e = rw (here, written_alone n rest e, written_number n h, written_form n (omega arith), lt-ltb n (2 ^ 64) h)
 
 -- a number written after any text, and before one that begins with no digit, is read back
-pub read_back : (before : List ℕ) (n : ℕ) (rest : List ℕ) → n < 2 ^ 64 → digits rest ≡ [] → field_at (before ++ (decimal_of n ++ rest)) (length before) ≡ Number n (length before + length (decimal_of n))
+pub read_back : (before : List ℕ) (n : ℕ) (rest : List ℕ) → n < 2 ^ 64 → digits rest ≡ [] → field_at (before ++ (decimal_of n ++ rest)) (length before) ≡ read_number n (length before + length (decimal_of n))
 read_back before n rest h e = read_at (before ++ (decimal_of n ++ rest)) (length before) n rest (drop-append_seam before (decimal_of n ++ rest)) h e
 
 -- fewer than 20 digits follow a number above 0 where all together fit 64 bits
@@ -79,18 +80,27 @@ spelled (d ∷ []) e form h =
     one_digit 19 v (omega arith) ∙ ap (λ (b : ℕ). b ∷ []) same
 spelled (d ∷ b ∷ bs) e form h = spelled_on d (b ∷ bs) e (λ z. false≢true (sym (zero_first (d ∷ b ∷ bs) (omega arith) z) ∙ form)) h
 
+-- two numbers read that are one have one value and one next place
+pub same_number : {w m v n : ℕ} → read_number w m ≡ read_number v n → (w ≡ v) × (m ≡ n)
+same_number {w} {m} {v} {n} e =
+    let at : ℕ → ℕ → Number = λ a b. record { value = a; next = b } in
+    let same : at w m ≡ at v n = cc in
+    (ap (λ (k : Number). k.value) same, ap (λ (k : Number). k.next) same)
+
 -- what a field that is read says of its digits
-field_digits : (ds : List ℕ) (at v next : ℕ) → cond (no_leading_zero ds && fits64 (value_of 0 ds)) (Number (value_of 0 ds) (at + length ds)) NoNumber ≡ Number v next → (no_leading_zero ds ≡ true) × (value_of 0 ds < 2 ^ 64) × (value_of 0 ds ≡ v) × (at + length ds ≡ next)
+field_digits : (ds : List ℕ) (at v next : ℕ) → cond (no_leading_zero ds && fits64 (value_of 0 ds)) (read_number (value_of 0 ds) (at + length ds)) None ≡ read_number v next → (no_leading_zero ds ≡ true) × (value_of 0 ds < 2 ^ 64) × (value_of 0 ds ≡ v) × (at + length ds ≡ next)
 unfolding fits64
 field_digits ds at v next e = go (no_leading_zero ds) (fits64 (value_of 0 ds)) refl refl e
   where
-    go : (form fit : Bool) → no_leading_zero ds ≡ form → fits64 (value_of 0 ds) ≡ fit → cond (form && fit) (Number (value_of 0 ds) (at + length ds)) NoNumber ≡ Number v next → (no_leading_zero ds ≡ true) × (value_of 0 ds < 2 ^ 64) × (value_of 0 ds ≡ v) × (at + length ds ≡ next)
-    go true true a b c = (a, ltb-true (value_of 0 ds) (2 ^ 64) b, cc, cc)
+    go : (form fit : Bool) → no_leading_zero ds ≡ form → fits64 (value_of 0 ds) ≡ fit → cond (form && fit) (read_number (value_of 0 ds) (at + length ds)) None ≡ read_number v next → (no_leading_zero ds ≡ true) × (value_of 0 ds < 2 ^ 64) × (value_of 0 ds ≡ v) × (at + length ds ≡ next)
+    go true true a b c =
+        let same = same_number c in
+        (a, ltb-true (value_of 0 ds) (2 ^ 64) b, same.0, same.1)
     go true false a b c = let z : ◌≡◌ {A = ℕ} 0 1 = cc in absurd (omega arith)
     go false fit a b c = let z : ◌≡◌ {A = ℕ} 0 1 = cc in absurd (omega arith)
 
 -- a field that is read stands in the text as its number is written, and its next place is the one after it
-pub read_written : (text : List ℕ) (at v next : ℕ) → field_at text at ≡ Number v next → (v < 2 ^ 64) × (next ≡ at + length (decimal_of v)) × (drop at text ≡ decimal_of v ++ drop next text)
+pub read_written : (text : List ℕ) (at v next : ℕ) → field_at text at ≡ read_number v next → (v < 2 ^ 64) × (next ≡ at + length (decimal_of v)) × (drop at text ≡ decimal_of v ++ drop next text)
 unfolding field_at
 read_written text at v next e =
     let ds : List ℕ = digits (drop at text) in

@@ -1,85 +1,25 @@
--- A field read digit by digit: the number of the digits passed, and the digits ahead, decide the field at every place of the loop.
-use mathlib.Core.Path.{◌≡◌, refl, sym, ap, ◌∙◌}
-use mathlib.Core.Bool.{Bool, true, false, cond, and-false}
+-- A field read: how many digits a text begins with, their form and their number decide it.
+use mathlib.Core.Path.{◌≡◌, refl, ap, ◌∙◌}
+use mathlib.Core.Bool.{Bool, true, false, cond, not, ◌&&◌, and-false}
 use mathlib.Core.List.{List, [], ◌∷◌}
-use Prim.Native.Nat.{ℕ, ◌+◌, ◌-◌, ◌*◌, ◌^◌, ◌≤◌, ◌<◌}
-use native.Mathlib.Nat.{le_refl, le_trans, lt_of_not-le, not-suc-le-zero, add-zero}
-use native.Mathlib.Numerals.{add-one}
+use lib.Dec.{eqb}
+use Prim.Native.Nat.{ℕ, suc, zero-le, suc-le-suc, ◌+◌, ◌-◌, ◌*◌, ◌≤◌, ◌<◌}
+use native.Mathlib.Nat.{le_refl, le_trans, not-suc-le-zero}
 use native.Mathlib.Omega.{arith}
-use borrow.Author.Tests.{lt-ltb, le-ltb, le-leb, lt-leb, eq-eqb, ne_eqb}
-use lib.ListN.{length, get_or, drop, drop_of_length-le}
-use lib.Seq.{drop-cons, get_or-drop}
-use Rattle.decimal.specs.declared.Field.TheVariants.{Number, NoNumber}
-use Rattle.decimal.specs.Decimal.{is_digit, digits, value_of, no_leading_zero, fits64, field_at}
-
-module _ (text : List ℕ) (i : ℕ) where
-  -- a digit is the first of those ahead
-  pub digit_here : i < length text → 48 ≤ get_or text i 0 → get_or text i 0 ≤ 57 → digits (drop i text) ≡ get_or text i 0 ∷ digits (drop (i + 1) text)
-  unfolding digits is_digit
-  digit_here h a b = rw (drop-cons text i 0, add-one i, le-leb _ _ a, le-leb _ _ b)
-
-  -- any other byte ends them: one that is too low
-  pub byte_low : i < length text → get_or text i 0 < 48 → digits (drop i text) ≡ []
-  unfolding digits is_digit
-  byte_low h a = rw (drop-cons text i 0, lt-leb _ _ a)
-
-  -- or one that is too high
-  pub byte_high : i < length text → 48 ≤ get_or text i 0 → 57 < get_or text i 0 → digits (drop i text) ≡ []
-  unfolding digits is_digit
-  byte_high h a b = rw (drop-cons text i 0, le-leb _ _ a, lt-leb _ _ b)
-
-  -- and so does the text's end
-  pub text_ends : length text ≤ i → digits (drop i text) ≡ []
-  unfolding digits
-  text_ends h = rw (drop_of_length-le text {i = i} h)
+use borrow.Author.Tests.{lt-ltb, le-ltb, eq-eqb, ne_eqb}
+use lib.ListN.{length, get_or, take, drop, drop_of_length-le}
+use Rattle.std.specs.Prelude.{Option, Some, None}
+use Rattle.decimal.specs.declared.Number.{Number}
+use Rattle.std.specs.Char.{is_ascii_digit}
+use Rattle.std.specs.List.{take_while, prefix_len}
+use Rattle.std.proofs.lemmas.List.Folds.{length-prefix_len}
+use Rattle.decimal.specs.Decimal.{is_digit, digits, value_of, no_leading_zero, fits64, read_number, field_at, number_of}
 
 -- more digits never make a number smaller
 pub grows : (v : ℕ) (ds : List ℕ) → v ≤ value_of v ds
 unfolding value_of
 grows v [] = le_refl v
 grows v (d ∷ ds) = le_trans (omega arith) (grows (v * 10 + (d - 48)) ds)
-
--- what the loop keeps at place `i` with the number `v`
-pub record Passed (text : List ℕ) (at i v : ℕ) : Type 0 where
-  pub onward : at ≤ i
-  pub places : at + length (digits (drop at text)) ≡ i + length (digits (drop i text))
-  pub number : value_of 0 (digits (drop at text)) ≡ value_of v (digits (drop i text))
-  pub fitting : v < 2 ^ 64
-
--- what holds where the digits end at place `i`
-pub record Ended (text : List ℕ) (at i v : ℕ) : Type 0 where
-  pub places : at + length (digits (drop at text)) ≡ i
-  pub number : value_of 0 (digits (drop at text)) ≡ v
-  pub fitting : v < 2 ^ 64
-
--- at the start no digit is passed
-pub none_passed : (text : List ℕ) (at : ℕ) → Passed text at at 0
-none_passed text at = record { onward = le_refl at; places = refl; number = refl; fitting = omega arith }
-
-module _ (text : List ℕ) (at i v : ℕ) (p : Passed text at i v) where
-  -- one digit more
-  pub one_more : i < length text → 48 ≤ get_or text i 0 → get_or text i 0 ≤ 57 → v * 10 + (get_or text i 0 - 48) < 2 ^ 64 → Passed text at (i + 1) (v * 10 + (get_or text i 0 - 48))
-  unfolding value_of
-  one_more h a b fit =
-      record {
-        onward = omega arith;
-        places = omega (arith, ap length (digit_here text i h a b));
-        number = p.number ∙ ap (value_of v) (digit_here text i h a b);
-        fitting = fit;
-      }
-
-  -- a digit with which the number no longer fits: there is no such number
-  pub no_fit : i < length text → 48 ≤ get_or text i 0 → get_or text i 0 ≤ 57 → 2 ^ 64 ≤ v * 10 + (get_or text i 0 - 48) → NoNumber ≡ field_at text at
-  unfolding value_of field_at fits64
-  no_fit h a b over =
-      let more : v * 10 + (get_or text i 0 - 48) ≤ value_of 0 (digits (drop at text)) =
-      rw (p.number, digit_here text i h a b) (grows (v * 10 + (get_or text i 0 - 48)) (digits (drop (i + 1) text))) in
-      rw (le-ltb (value_of 0 (digits (drop at text))) (2 ^ 64) (le_trans over more), and-false)
-
-  -- no digit ahead
-  pub no_more : digits (drop i text) ≡ [] → Ended text at i v
-  unfolding value_of
-  no_more e = record { places = omega (arith, ap length e); number = p.number ∙ ap (value_of v) e; fitting = p.fitting }
 
 -- one step of the next law, on either answer of the byte
 first_by : (t : Bool) (b : ℕ) (bs : List ℕ) → 0 < length (cond t (b ∷ bs) []) → get_or (cond t (b ∷ bs) []) 0 0 ≡ b
@@ -92,9 +32,15 @@ unfolding digits
 first_digit [] h = refl
 first_digit (b ∷ bs) h = first_by (is_digit b) b (digits bs) h
 
--- where there is a digit the place is within the text
-pub within : (text : List ℕ) (at : ℕ) → 0 < length (digits (drop at text)) → at < length text
-within text at h = lt_of_not-le (λ le. not-suc-le-zero (rw (text_ends text at le) at (h)))
+-- the digits that a text begins with are no more than its bytes
+pub digits_within : (l : List ℕ) → length (digits l) ≤ length l
+unfolding digits
+digits_within [] = zero-le
+digits_within (b ∷ bs) = go (is_digit b) (digits_within bs)
+  where
+    go : (t : Bool) → length (digits bs) ≤ length bs → length (cond t (b ∷ digits bs) []) ≤ suc (length bs)
+    go true h = suc-le-suc h
+    go false h = zero-le
 
 module _ (ds : List ℕ) where
   -- no digit is of the wrong form
@@ -112,38 +58,70 @@ module _ (ds : List ℕ) where
   unfolding no_leading_zero
   zero_first h z = rw (lt-ltb 0 (length ds) (omega arith), ne_eqb (length ds) 1 (λ e. omega arith), eq-eqb (get_or ds 0 0) 48 z)
 
+  -- with more, it is the first one that decides
+  pub more_digits : 1 < length ds → no_leading_zero ds ≡ not (eqb (get_or ds 0 0) 48)
+  unfolding no_leading_zero
+  more_digits h = rw (lt-ltb 0 (length ds) (omega arith), ne_eqb (length ds) 1 (λ e. omega arith))
+
   -- more with another in front are of the right form
   pub other_first : 1 < length ds → (get_or ds 0 0 ≡ 48 → ⊥) → no_leading_zero ds ≡ true
   unfolding no_leading_zero
   other_first h z = rw (lt-ltb 0 (length ds) (omega arith), ne_eqb (length ds) 1 (λ e. omega arith), ne_eqb (get_or ds 0 0) 48 z)
 
-module _ (text : List ℕ) (at i v : ℕ) (p : Ended text at i v) where
+-- the digits that a text begins with are as many bytes from its front on
+digits_take : (l : List ℕ) → take (length (digits l)) l ≡ digits l
+unfolding digits
+digits_take [] = refl
+digits_take (b ∷ bs) = go (is_digit b) (digits_take bs)
+  where
+    go : (t : Bool) → take (length (digits bs)) bs ≡ digits bs → take (length (cond t (b ∷ digits bs) [])) (b ∷ bs) ≡ cond t (b ∷ digits bs) []
+    go true e = ap (λ (l : List ℕ). b ∷ l) e
+    go false e = refl
+
+-- std's test is the same, so its `take_while` takes as many
+as_many : (l : List ℕ) → prefix_len is_ascii_digit l ≡ length (digits l)
+unfolding digits is_digit
+as_many [] = refl
+as_many (b ∷ bs) = go (is_digit b) (as_many bs)
+  where
+    go : (t : Bool) → prefix_len is_ascii_digit bs ≡ length (digits bs) → cond t (1 + prefix_len is_ascii_digit bs) 0 ≡ length (cond t (b ∷ digits bs) [])
+    go true e = omega arith
+    go false e = refl
+
+digits_counted : (l : List ℕ) → length (take_while is_ascii_digit l) ≡ length (digits l)
+digits_counted l = length-prefix_len is_ascii_digit l ∙ as_many l
+
+-- the bytes of a text counted so are the digits that it begins with, and digits only
+pub digits_of_part : (l : List ℕ) (k : ℕ) → k ≡ length (take_while is_ascii_digit l) → (take k l ≡ digits l) × (k ≡ length (digits l)) × (k ≤ length l)
+digits_of_part l k e =
+    let same : k ≡ length (digits l) = e ∙ digits_counted l in
+    (rw same (digits_take l), same, omega (arith, digits_within l))
+
+-- past the end of the text there is no digit, so no number
+pub reads_past : (text : List ℕ) (at : ℕ) → length text < at → field_at text at ≡ None
+unfolding field_at digits
+reads_past text at h = rw (drop_of_length-le text {i = at} (omega arith), no_digit [] refl)
+
+module _ (text : List ℕ) (at : ℕ) (rest ds : List ℕ) (from : rest ≡ drop at text) (front : ds ≡ digits rest) where
   -- digits of the wrong form: no number
-  wrong : no_leading_zero (digits (drop at text)) ≡ false → NoNumber ≡ field_at text at
+  pub reads_wrong : no_leading_zero ds ≡ false → field_at text at ≡ None
   unfolding field_at
-  wrong e = rw e
+  reads_wrong e = rw (← from, ← front, e)
 
-  -- digits of the right form: their number, and the place after them
-  right : no_leading_zero (digits (drop at text)) ≡ true → Number v i ≡ field_at text at
-  unfolding field_at fits64
-  right e = rw (e, p.number, p.places, lt-ltb v (2 ^ 64) p.fitting)
+  -- a number that does not fit
+  pub reads_over : number_of ds ≡ None → field_at text at ≡ None
+  unfolding field_at number_of
+  reads_over e = rw (← from, ← front) (go (fits64 (value_of 0 ds)) refl e)
+    where
+      go : (t : Bool) → fits64 (value_of 0 ds) ≡ t → cond t (Some (value_of 0 ds)) None ≡ None → ◌≡◌ {A = Option Number} (cond (no_leading_zero ds && t) (read_number (value_of 0 ds) (at + length ds)) None) None
+      go true f e = let z : ◌≡◌ {A = ℕ} 0 1 = cc in absurd (omega arith)
+      go false f e = rw and-false
 
-  -- the first digit of the field is the byte at its place
-  first : 0 < length (digits (drop at text)) → get_or (digits (drop at text)) 0 0 ≡ get_or text at 0
-  first h = first_digit (drop at text) h ∙ rw (get_or-drop, add-zero)
-
-  -- what is read: no digit
-  pub reads_none : i - at ≡ 0 → NoNumber ≡ field_at text at
-  reads_none h = wrong (no_digit (digits (drop at text)) (omega arith))
-
-  -- more than one, and the first is `0`
-  pub reads_zero : 1 < i - at → get_or text at 0 ≡ 48 → NoNumber ≡ field_at text at
-  reads_zero h z = wrong (zero_first (digits (drop at text)) (omega arith) (first (omega arith) ∙ z))
-
-  -- one digit
-  pub reads_one : (i - at ≡ 0 → ⊥) → i - at ≤ 1 → Number v i ≡ field_at text at
-  reads_one h k = right (lone_digit (digits (drop at text)) (omega arith))
-
-  -- more than one, and the first is another
-  pub reads_more : 1 < i - at → (get_or text at 0 ≡ 48 → ⊥) → Number v i ≡ field_at text at
-  reads_more h z = right (other_first (digits (drop at text)) (omega arith) (λ e. z (sym (first (omega arith)) ∙ e)))
+  -- digits of the right form whose number fits: that number, and the place after them
+  pub reads_number : (v : ℕ) → no_leading_zero ds ≡ true → number_of ds ≡ Some v → field_at text at ≡ read_number v (at + length ds)
+  unfolding field_at number_of
+  reads_number v form e = rw (← from, ← front, form) (go (fits64 (value_of 0 ds)) e)
+    where
+      go : (t : Bool) → cond t (Some (value_of 0 ds)) None ≡ Some v → ◌≡◌ {A = Option Number} (cond t (read_number (value_of 0 ds) (at + length ds)) None) (read_number v (at + length ds))
+      go true e = let same : value_of 0 ds ≡ v = cc in rw same
+      go false e = let z : ◌≡◌ {A = ℕ} 0 1 = cc in absurd (omega arith)

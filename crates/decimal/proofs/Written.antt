@@ -3,12 +3,12 @@ use mathlib.Core.Path.{◌≡◌, refl, ap, ◌∙◌}
 use mathlib.Core.Logic.{◌⊎◌, inl, inr, ⊎_elim}
 use mathlib.Core.Bool.{Bool, true, false}
 use mathlib.Core.List.{[], ◌∷◌, ◌++◌}
-use Prim.Native.Nat.{ℕ, zero, suc, zero-le, ◌+◌, ◌*◌, ◌/◌, ◌%◌, ◌^◌, ◌≤◌, ◌<◌}
+use Prim.Native.Nat.{ℕ, max, zero, suc, zero-le, ◌+◌, ◌*◌, ◌/◌, ◌%◌, ◌^◌, ◌≤◌, ◌<◌}
 use native.Mathlib.Nat.{not-suc-le-zero, le_of_suc-le-suc, pow-suc, one-le-pow, pow-le-pow_right}
 use native.Mathlib.Numerals.{add-one}
 use native.Mathlib.Omega.{arith}
 use borrow.Author.Tests.{lt-ltb, le-ltb, ltb-true, ltb-false}
-use lib.Dec.{ltb, lit<}
+use lib.Dec.{ltb, lit<, lit≤}
 use lib.ListN.{length, length-append}
 use Rattle.decimal.specs.Decimal.{digits_of, decimal_of}
 
@@ -93,3 +93,12 @@ power_fits k h = omega (arith, pow-le-pow_right {n = 10} (lit< tt) {i = k} {j = 
 -- the next power of ten is ten times this one
 pub next_power : (k : ℕ) → 10 ^ (k + 1) ≡ 10 ^ k * 10
 next_power k = rw (add-one k) (pow-suc 10 k)
+
+-- a number of `m` at least 1 between two powers of ten has one digit more than the lower power has zeros
+pub digits_by_power : (n m k : ℕ) → m ≡ max n 1 → 10 ^ k ≤ m → m < 10 * 10 ^ k → k < 20 → k + 1 ≡ length (decimal_of n)
+digits_by_power n m zero e low high few = omega (arith, some_digit n, narrow n 1 (omega arith) (lit≤ tt))
+digits_by_power n m (suc k) e low high few =
+    let some : 1 ≤ 10 ^ k = one-le-pow k 10 (lit< tt) in
+    let same : m ≡ n = omega (arith, pow-suc 10 k) in
+    let next : 10 ^ (suc k + 1) ≡ 10 ^ suc k * 10 = next_power (suc k) in
+    omega (arith, narrow n (suc k + 1) (omega arith) (omega arith), wide n (suc k) (omega arith) few)

@@ -1,7 +1,6 @@
 -- "Run files": numbers as text, a field of digits read and a number written.
-use Rattle.std.specs.Prelude.{ℕ, zero, suc, ◌+◌, ◌-◌, ◌*◌, ◌/◌, ◌%◌, ◌^◌, Bool, cond, not, ◌&&◌, ◌||◌, List, [], ◌∷◌, ◌++◌, eqb, ltb, leb, length, get_or, drop}
-use Rattle.decimal.specs.declared.Field.{Field}
-use Rattle.decimal.specs.declared.Field.TheVariants.{Number, NoNumber}
+use Rattle.std.specs.Prelude.{ℕ, zero, suc, ◌+◌, ◌-◌, ◌*◌, ◌/◌, ◌%◌, ◌^◌, Bool, cond, not, ◌&&◌, ◌||◌, List, [], ◌∷◌, ◌++◌, eqb, ltb, leb, length, get_or, drop, Option, Some, None, ◌≡◌}
+use Rattle.decimal.specs.declared.Number.{Number}
 
 -- a byte that is a digit, from `0` to `9`
 unfoldable pub is_digit : ℕ → Bool
@@ -25,11 +24,22 @@ no_leading_zero ds = ltb 0 (length ds) && (eqb (length ds) 1 || not (eqb (get_or
 unfoldable pub fits64 : ℕ → Bool
 fits64 n = ltb n (2 ^ 64)
 
+-- a number that is read, and the place after its last digit
+abbrev pub read_number : ℕ → ℕ → Option Number
+read_number value next = Some (record { value = value; next = next })
+
 -- the field of digits that stands in a text at a place: its number, and the place after its last digit; or no such number
-unfoldable pub field_at : List ℕ → ℕ → Field
+unfoldable pub field_at : List ℕ → ℕ → Option Number
 field_at text at =
     let ds = digits (drop at text) in
-    cond (no_leading_zero ds && fits64 (value_of 0 ds)) (Number (value_of 0 ds) (at + length ds)) NoNumber
+    cond (no_leading_zero ds && fits64 (value_of 0 ds)) (read_number (value_of 0 ds) (at + length ds)) None
+
+-- digits and nothing else, and their number where it fits
+abbrev pub DigitsOnly : List ℕ → Type 0
+DigitsOnly ds = digits ds ≡ ds
+
+unfoldable pub number_of : List ℕ → Option ℕ
+number_of ds = cond (fits64 (value_of 0 ds)) (Some (value_of 0 ds)) None
 
 -- a number of at most `most` digits in decimal, the last digit from what 10 leaves, with no zero in front
 unfoldable pub digits_of : ℕ → ℕ → List ℕ

@@ -6,8 +6,7 @@ use native.Mathlib.Nat.{dvd_refl, dvd-zero, one-dvd, dvd_trans, dvd_antisymm, dv
 use lib.Arith.{le-zero}
 use lib.ListN.{length, get_or}
 use borrow.Author.Tests.{le-leb, lt-leb}
-use Rattle.divisors.specs.declared.Multiple.{Multiple}
-use Rattle.divisors.specs.declared.Multiple.TheVariants.{Is, TooLarge}
+use Rattle.std.specs.Prelude.{Option, Some, None}
 use Rattle.divisors.specs.Divisors.{euclid, gcd_of, lcm_of, lcm_all, IsGcd, IsLcm, IsLcmOf, Capped, within}
 
 -- a number and 0 have that number as their greatest common divisor
@@ -116,41 +115,41 @@ all_pos (p ∷ ps) pos =
     lcm_pos (pos 0 (zero-lt-suc (length ps))) (all_pos ps (λ k lt. pos (suc k) (suc-le-suc lt))) (lcm_is p (lcm_all ps))
 
 -- an answer that is a number: it has the property, and is at most the cap
-pub capped_number : (P : ℕ → Type 0) (cap m : ℕ) {r : Multiple} → r ≡ Is m → Capped cap P r → P m × (m ≤ cap)
+pub capped_number : (P : ℕ → Type 0) (cap m : ℕ) {r : Option ℕ} → r ≡ Some m → Capped cap P r → P m × (m ≤ cap)
 unfolding Capped
 capped_number P cap m e h = subst (Capped cap P) e h
 
 -- an answer that is too large: every number with the property is above the cap
-pub capped_large : (P : ℕ → Type 0) (cap m : ℕ) {r : Multiple} → r ≡ TooLarge → Capped cap P r → P m → cap < m
+pub capped_large : (P : ℕ → Type 0) (cap m : ℕ) {r : Option ℕ} → r ≡ None → Capped cap P r → P m → cap < m
 unfolding Capped
 capped_large P cap m e h = subst (Capped cap P) e h m
 
 -- the answer for a number that is at most the cap
-pub within_is : (cap m : ℕ) → m ≤ cap → within cap m ≡ Is m
+pub within_is : (cap m : ℕ) → m ≤ cap → within cap m ≡ Some m
 unfolding within
 within_is cap m h = simp (le-leb m cap h)
 
 -- the answer for a number above the cap
-pub within_large : (cap m : ℕ) → cap < m → within cap m ≡ TooLarge
+pub within_large : (cap m : ℕ) → cap < m → within cap m ≡ None
 unfolding within
 within_large cap m h = simp (lt-leb m cap h)
 
 -- an answer under a cap is the one for the number with the property, where there is one such number
 pub capped_is :
-    (P : ℕ → Type 0) → ((x y : ℕ) → P x → P y → x ≡ y) → (cap m : ℕ) {r : Multiple} → Capped cap P r → P m → r ≡ within cap m
+    (P : ℕ → Type 0) → ((x y : ℕ) → P x → P y → x ≡ y) → (cap m : ℕ) {r : Option ℕ} → Capped cap P r → P m → r ≡ within cap m
 unfolding Capped
-capped_is P one cap m {r = Is x} (p, h) q = rw (one m x q p, within_is cap x h)
-capped_is P one cap m {r = TooLarge} above q = sym (within_large cap m (above m q))
+capped_is P one cap m {r = Some x} (p, h) q = rw (one m x q p, within_is cap x h)
+capped_is P one cap m {r = None} above q = sym (within_large cap m (above m q))
 
 -- two answers under a cap are equal
 pub capped-one :
-    (P : ℕ → Type 0) → ((x y : ℕ) → P x → P y → x ≡ y) → (cap m : ℕ) {r r' : Multiple} → Capped cap P r → Capped cap P r' → P m → r ≡ r'
+    (P : ℕ → Type 0) → ((x y : ℕ) → P x → P y → x ≡ y) → (cap m : ℕ) {r r' : Option ℕ} → Capped cap P r → Capped cap P r' → P m → r ≡ r'
 capped-one P one cap m a b q = capped_is P one cap m a q ∙ sym (capped_is P one cap m b q)
 
 -- an answer for two numbers is the one for `lcm_of`
-pub lcm_capped : (cap a b : ℕ) {r : Multiple} → Capped cap (IsLcm a b) r → r ≡ within cap (lcm_of a b)
+pub lcm_capped : (cap a b : ℕ) {r : Option ℕ} → Capped cap (IsLcm a b) r → r ≡ within cap (lcm_of a b)
 lcm_capped cap a b h = capped_is (IsLcm a b) (λ x y f g. lcm_one f g) cap (lcm_of a b) h (lcm_is a b)
 
 -- an answer for a list is the one for `lcm_all`
-pub lcm_of_is : (cap : ℕ) (l : List ℕ) {r : Multiple} → Capped cap (IsLcmOf l) r → r ≡ within cap (lcm_all l)
+pub lcm_of_is : (cap : ℕ) (l : List ℕ) {r : Option ℕ} → Capped cap (IsLcmOf l) r → r ≡ within cap (lcm_all l)
 lcm_of_is cap l h = capped_is (IsLcmOf l) (λ x y f g. all_one f g) cap (lcm_all l) h (all_is l)

@@ -1,11 +1,14 @@
 -- From the least common multiple of a list's first numbers to that of one number more, and to that of the whole list. Assumes nothing.
 use mathlib.Core.Path.{◌≡◌, subst}
-use mathlib.Core.Bool.{true, false}
+use mathlib.Core.Bool.{Bool, true, false}
 use mathlib.Core.List.{List, []}
 use Prim.Native.Nat.{ℕ, ◌+◌, ◌≤◌, ◌<◌, ◌∣◌}
-use native.Mathlib.Nat.{dvd-zero, dvd_trans, le_of_dvd, lt_of_lt_of_le}
+use native.Mathlib.Nat.{pos_of_ne-zero, dvd-zero, dvd_trans, le_of_dvd, lt_of_lt_of_le}
 use native.Mathlib.Omega.{arith}
 use borrow.Author.Count.{below_more}
+use lib.Dec.{eqb}
+use borrow.Author.Tests.{eqb-true, eqb-false}
+use Rattle.std.specs.List.{IsAnyAnswer}
 use lib.ListN.{length, get_or, take, length-take}
 use lib.Seq.{get_or-take, take_all}
 use Rattle.divisors.specs.Divisors.{lcm_all, lcm_of, IsLcm, IsLcmOf, ZeroIn}
@@ -58,7 +61,8 @@ module _ (l : List ℕ) (i acc : ℕ) (lt : i < length l) (s : IsLcmOf (take i l
 pub end_is : (l : List ℕ) (i acc : ℕ) → length l ≤ i → IsLcmOf (take i l) acc → IsLcmOf l acc
 end_is l i acc h s = rw (take_all i l h) at s
 
--- a place that holds 0 is one
-pub zero_found : (l : List ℕ) (k : ℕ) → k < length l → get_or l k 0 ≡ 0 → ZeroIn l true
+-- the search for a 0 tells whether there is one
+pub zero_told : (l : List ℕ) (b : Bool) → IsAnyAnswer (λ x e. eqb x 0 ≡ e) l b → ZeroIn l b
 unfolding ZeroIn
-zero_found l k h e = (k, h, e)
+zero_told l true (k, lt, at) = (k, lt, eqb-true _ _ (at 0))
+zero_told l false none = λ k lt. pos_of_ne-zero (eqb-false _ _ (none k 0 (omega arith) lt))

@@ -1,8 +1,6 @@
 -- The greatest common divisor of two numbers, and the least common multiple of two or of a list. Assumes nothing: these are definitions.
-use Rattle.std.specs.Prelude.{ℕ, zero, suc, ◌/◌, ◌*◌, ◌%◌, ◌≤◌, ◌<◌, ◌≡◌, List, [], ◌∷◌, Bool, true, false, cond, leb, length, get_or}
+use Rattle.std.specs.Prelude.{ℕ, zero, suc, ◌/◌, ◌*◌, ◌%◌, ◌≤◌, ◌<◌, ◌≡◌, List, [], ◌∷◌, Bool, true, false, cond, leb, length, get_or, Option, Some, None}
 use Rattle.std.specs.Int.{◌∣◌}
-use Rattle.divisors.specs.declared.Multiple.{Multiple}
-use Rattle.divisors.specs.declared.Multiple.TheVariants.{Is, TooLarge}
 
 -- Euclid's divisions from the pair of a and b, at most f of them
 unfoldable pub euclid : ℕ → ℕ → ℕ → ℕ
@@ -40,14 +38,14 @@ pub record IsLcmOf (l : List ℕ) (m : ℕ) : Type 0 where
   pub each : (k : ℕ) → k < length l → get_or l k 0 ∣ m
   pub least : (n : ℕ) → ((k : ℕ) → k < length l → get_or l k 0 ∣ n) → m ∣ n
 
--- the answer names a number with the property, at most the cap; or every number with the property is above the cap
-unfoldable pub Capped : ℕ → (ℕ → Type 0) → Multiple → Type 0
-Capped cap P (Is m) = P m × (m ≤ cap)
-Capped cap P TooLarge = (m : ℕ) → P m → cap < m
+-- the answer names a number with the property, at most the cap; or it is none, and every number with the property is above the cap
+unfoldable pub Capped : ℕ → (ℕ → Type 0) → Option ℕ → Type 0
+Capped cap P (Some m) = P m × (m ≤ cap)
+Capped cap P None = (m : ℕ) → P m → cap < m
 
 -- the answer for the number m under a cap
-unfoldable pub within : ℕ → ℕ → Multiple
-within cap m = cond (leb m cap) (Is m) TooLarge
+unfoldable pub within : ℕ → ℕ → Option ℕ
+within cap m = cond (leb m cap) (Some m) None
 
 -- the answer tells whether a number of the list is 0
 unfoldable pub ZeroIn : List ℕ → Bool → Type 0

@@ -6,20 +6,14 @@ ghost use Rattle.governor.specs.Parts.{Affordable};
 use rules::{Ladder, Tally};
 
 // Rule 6: the sum over speeds of count x volts x volts.
-pub(crate) fn energy_of(ladder: Ladder, tally: Tally) -> u64
-    requires { Affordable ladder tally }
-    ensures { result ≡ energy_sum ladder tally }
+pub(crate) fn energy_of(ladder: &Ladder, tally: &Tally) -> u64
+    requires { Affordable ladder.now tally.now }
+    ensures { result ≡ energy_sum ladder.now tally.now }
 {
-    let volts = ladder.volts;
-    let counts = tally.counts;
-    let n = ladder.count;
-    let mut sum: u64 = 0;
-    let mut i = 0;
-    while i < n {
-        let count = counts[i];
-        let volt = volts[i];
-        sum += count.0 * volt.0 * volt.0;
-        i += 1;
+    let mut sum = 0;
+    for i in 0..ladder.count {
+        let volts = ladder.volts[i];
+        sum += tally.counts[i].0 * volts.0 * volts.0;
     }
     sum
 }

@@ -1,20 +1,17 @@
 // Many run files in one process, for comparisons: what the bench prints for each of them, from the same call. Each run file comes after three bytes with its length, each printed run goes out after four with its own, the first byte the highest.
 #![tactic(auto)]
 
-use printout::Printed;
 use std::io;
-use std::io::{Read, Write};
+use std::io::{ErrorKind, Read, Write};
 
 // At most 100,000 run files; the end of the input, or a run file that is cut short, ends it.
 fn main(rt: HostRuntime) -> io::Result<()> {
-    let mut text = [0u8; 65537];
-    let mut out = [0u8; 1500200];
-    let mut i: u64 = 0;
-    while i < 100000 {
+    let mut text = [0; 65537];
+    let mut out = [0; 1500200];
+    for _ in 0..100000 {
         if !one(&rt, &mut rt.stdin(), &mut text, &mut out)? {
-            return Ok(());
+            break;
         }
-        i += 1;
     }
     Ok(())
 }
@@ -26,65 +23,44 @@ fn one<R: Read>(
     text: &mut [u8; 65537],
     out: &mut [u8; 1500200],
 ) -> io::Result<bool> {
-    let n = next_length(input)?;
-    if n > 65537 {
+    let Some(n) = next_length(input)? else {
+        return Ok(false);
+    };
+    let Some(file) = text.get_mut(..n) else {
+        return Ok(false);
+    };
+    if !read_full(input, file)? {
         return Ok(false);
     }
-    let file: &mut [u8] = text;
-    if !read_full(input, &mut file[0..n])? {
-        return Ok(false);
-    }
-    let whole = &file[..];
-    print_run(rt, &whole[0..n], out)
+    print_run(rt, file, out)
 }
 
 // Prints one run, after its length.
+#[tactic(auto, using(printout::proofs::Answers::printed_within))]
 fn print_run(rt: &(impl Print + Eprint), text: &[u8], out: &mut [u8; 1500200]) -> io::Result<bool> {
-    let room: &mut [u8] = out;
-    let Printed::Bytes(m) = printout::print(text, room) else {
+    let Some(m) = printout::print(text, out) else {
         eprintln!(rt; "many: no room for the run")?;
         return Ok(false);
     };
-    put_length(rt, m)?;
-    let run = &room[..];
-    io::writer(rt).write_all(&run[0..m])?;
+    io::writer(rt).write_all(&(m as u32).to_be_bytes())?;
+    io::writer(rt).write_all(&out[..m])?;
     Ok(true)
 }
 
-// The length of the next run file; 65,538 where there is none.
-fn next_length<R: Read>(input: &mut R) -> io::Result<usize> {
-    let mut head = [0u8; 3];
-    if !read_full(input, &mut head)? {
-        return Ok(65538);
+// The length of the next run file, or none where the input ends.
+fn next_length<R: Read>(input: &mut R) -> io::Result<Option<usize>> {
+    let mut head = [0; 4];
+    if !read_full(input, &mut head[1..])? {
+        return Ok(None);
     }
-    Ok(joined(head[0], head[1], head[2]))
+    Ok(Some(u32::from_be_bytes(head) as usize))
 }
 
 // Reads until the buffer is full, or the input ends: whether it is full.
 fn read_full<R: Read>(input: &mut R, buf: &mut [u8]) -> io::Result<bool> {
-    let mut done = 0;
-    while done < buf.len() {
-        let n = input.read(&mut buf[done..])?;
-        if n == 0 {
-            return Ok(false);
-        }
-        done += n;
+    match input.read_exact(buf) {
+        Ok(()) => Ok(true),
+        Err(error) if error.kind() == ErrorKind::UnexpectedEof => Ok(false),
+        Err(error) => Err(error),
     }
-    Ok(true)
-}
-
-// The number of three bytes.
-fn joined(high: u8, middle: u8, low: u8) -> usize {
-    high as usize * 65536 + middle as usize * 256 + low as usize
-}
-
-// The length of a printed run.
-fn put_length(rt: &impl Print, m: usize) -> io::Result<()> {
-    let head = [
-        (m / 16777216 % 256) as u8,
-        (m / 65536 % 256) as u8,
-        (m / 256 % 256) as u8,
-        (m % 256) as u8,
-    ];
-    io::writer(rt).write_all(&head)
 }

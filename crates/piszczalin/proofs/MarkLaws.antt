@@ -1,15 +1,15 @@
 -- The walks over the sixteen marks: an array turned place by place is the list turned, and the highest byte tells whether all are marks.
-use mathlib.Core.Path.{◌≡◌, refl}
+use mathlib.Core.Path.{◌≡◌, refl, ap, ◌∙◌}
 use mathlib.Core.Bool.{Bool, true, false, ◌&&◌}
 use mathlib.Core.List.{List, ◌++◌, map, append-nil}
-use Prim.Native.Nat.{ℕ, suc, ◌+◌, ◌≤◌, ◌<◌}
+use Prim.Native.Nat.{ℕ, suc, ◌+◌, ◌≤◌, ◌<◌, max}
 use native.Mathlib.Numerals.{add-one}
 use native.Mathlib.Omega.{arith}
 use mir.Val.{bool_byte}
-use lib.Dec.{leb}
+use lib.Dec.{leb, ltb}
 use lib.ListN.{length, get_or, set, take, drop, drop_of_length-le}
 use lib.Seq.{drop-cons, take-suc-set, take_all, append_snoc}
-use borrow.Author.Tests.{leb-true, le-leb}
+use borrow.Author.Tests.{leb-true, le-leb, ltb-true, ltb-false}
 use Rattle.rules.specs.Words.{every}
 use Rattle.rules.proofs.Lists.{rest_cons, every_end}
 use Rattle.piszczalin.specs.Plain.{is_mark, mark_of}
@@ -75,13 +75,27 @@ module _ (low high : ℕ) (rest : Bool) (h : low ≤ high) where
 
 -- the walk goes on with a higher byte, or with the highest so far, and ends
 module _ (l : List ℕ) (highest i : ℕ) (h : i < length l) where
-  pub raised : highest < get_or l i 0 → highest_good l highest i ≡ highest_good l (get_or l i 0) (i + 1)
+  raised : highest < get_or l i 0 → highest_good l highest i ≡ highest_good l (get_or l i 0) (i + 1)
   unfolding highest_good is_mark every
   raised g = rw (rest_cons l 0 i h) (higher_last highest (get_or l i 0) (every is_mark (drop (i + 1) l)) (omega arith))
 
-  pub kept : get_or l i 0 ≤ highest → highest_good l highest i ≡ highest_good l highest (i + 1)
+  kept : get_or l i 0 ≤ highest → highest_good l highest i ≡ highest_good l highest (i + 1)
   unfolding highest_good is_mark every
   kept g = rw (rest_cons l 0 i h) (higher_first (get_or l i 0) highest (every is_mark (drop (i + 1) l)) g)
+
+-- so each turn the higher of the two
+pub higher : (l : List ℕ) (highest i : ℕ) → i < length l → highest_good l highest i ≡ highest_good l (max (get_or l i 0) highest) (i + 1)
+higher l highest i h = go (ltb highest (get_or l i 0)) refl
+  where
+    go : (b : Bool) → ltb highest (get_or l i 0) ≡ b → highest_good l highest i ≡ highest_good l (max (get_or l i 0) highest) (i + 1)
+    go true e =
+        let g = ltb-true highest (get_or l i 0) e in
+        let m : get_or l i 0 ≡ max (get_or l i 0) highest = omega arith in
+        raised l highest i h g ∙ ap (λ x. highest_good l x (i + 1)) m
+    go false e =
+        let g = ltb-false highest (get_or l i 0) e in
+        let m : highest ≡ max (get_or l i 0) highest = omega arith in
+        kept l highest i h g ∙ ap (λ x. highest_good l x (i + 1)) m
 
 pub highest_all : (l : List ℕ) (highest i : ℕ) → length l ≤ i → highest_good l highest i ≡ leb highest 1
 unfolding highest_good

@@ -10,11 +10,10 @@ use Rattle.units.specs.Units.{ticks, speed}
 use Rattle.rules.specs.Words.{every}
 use Rattle.rules.proofs.Lists.{every_first, every_rest}
 use Rattle.rules.specs.declared.State.{State}
-use Rattle.rules.specs.declared.Started.{Started}
 use Rattle.rules.specs.Calls.{now_of, tick_of, grants_of, energy_of}
 use Rattle.piszczalin.specs.declared.PlainState.{PlainState}
-use Rattle.piszczalin.specs.Plain.{is_mark, over_of, mark_of, marks_good, state_of, plain_state_of, plain_of}
-use Rattle.piszczalin.specs.Calls.{plain_started, plain_ticked, plain_now, plain_tick, plain_grants, plain_energy}
+use Rattle.piszczalin.specs.Plain.{is_mark, over_of, mark_of, marks_good, state_of, plain_state_of, plain_of, plain_used}
+use Rattle.piszczalin.specs.Calls.{plain_ticked, plain_now, plain_tick, plain_grants, plain_energy}
 
 -- a mark turned and turned back, a bool too
 mark_back : (mark : ℕ) → is_mark mark ≡ true → mark_of (over_of mark) ≡ mark
@@ -60,11 +59,6 @@ pub plain_good : (s : State) → marks_good (plain_state_of s) ≡ true
 unfolding marks_good plain_state_of
 plain_good s = overs_good s.jobs.over
 
--- start's answer made of its number and its state, plain
-pub started_made : (started : Started) (s : PlainState) → s ≡ plain_state_of started.state → record { number = started.number; state = s } ≡ plain_started started
-unfolding plain_started
-started_made started s e = rw e
-
 -- marks that are not good: each call's refusal, and the grants list as it was
 module _ (s : PlainState) (e : marks_good s ≡ false) where
   pub now_bad : record { number = 9; task = 0; deadline = ticks 0; speed = speed 0 } ≡ plain_now s
@@ -89,7 +83,7 @@ module _ (s : PlainState) (e : marks_good s ≡ true) where
   unfolding plain_now
   now_good = rw e
 
-  pub energy_good : energy_of (state_of s) ≡ plain_energy s
+  pub energy_good : plain_used (energy_of (state_of s)) ≡ plain_energy s
   unfolding plain_energy
   energy_good = rw e
 
@@ -112,8 +106,8 @@ module _ (s : State) where
   pub now_plain : plain_of (now_of s) ≡ plain_now (plain_state_of s)
   now_plain = ap (λ (x : State). plain_of (now_of x)) (sym (state_back s)) ∙ now_good (plain_state_of s) (plain_good s)
 
-  pub energy_plain : energy_of s ≡ plain_energy (plain_state_of s)
-  energy_plain = ap energy_of (sym (state_back s)) ∙ energy_good (plain_state_of s) (plain_good s)
+  pub energy_plain : plain_used (energy_of s) ≡ plain_energy (plain_state_of s)
+  energy_plain = ap (λ (x : State). plain_used (energy_of x)) (sym (state_back s)) ∙ energy_good (plain_state_of s) (plain_good s)
 
   pub tick_plain : (report : List ℕ) (places : ℕ) → plain_ticked (tick_of s report places) ≡ plain_tick (plain_state_of s) report places
   tick_plain report places =

@@ -1,66 +1,53 @@
--- A tick by its parts: a tick leaves the tasks and the speeds as they are, so that its number, ticks, jobs and counts put together with them again are its whole answer.
-use mathlib.Core.Path.{◌≡◌, refl, ap, ◌∙◌}
-use mathlib.Core.Bool.{Bool, true, false, cond}
+-- The calls of a plain state by whether its marks are good: refused with 9, or the call of its state; and a tick's state put into bytes again.
+use mathlib.Core.Path.{◌≡◌, sym, ap, ◌∙◌}
+use mathlib.Core.Bool.{true}
 use mathlib.Core.List.{List}
 use Prim.Native.Nat.{ℕ}
-use lib.Dec.{eqb}
+use Rattle.std.proofs.Common.{Result, Ok, Err, subst}
+use Rattle.refusals.specs.declared.Refusal.{Refusal}
+use Rattle.refusals.specs.Refusals.{number_of}
 use Rattle.rules.specs.declared.Jobs.{Jobs}
-use Rattle.rules.specs.declared.Ticked.{Ticked}
 use Rattle.rules.specs.State.{state_from}
-use Rattle.rules.specs.Calls.{tick_of, grants_of}
+use Rattle.rules.specs.Calls.{grants_of, ticked_by}
 use Rattle.stepping.specs.declared.Stepped.{Stepped}
-use Rattle.stepping.specs.Stepped.{stepped_of}
-use Rattle.stepping.proofs.TickLaws.{tick_from}
-use Rattle.piszczalin.specs.declared.PlainJobs.{PlainJobs}
+use Rattle.stepping.specs.Stepped.{stepped_by, stepped_of}
+use Rattle.stepping.proofs.TickLaws.{tick_from, tick_kept}
 use Rattle.piszczalin.specs.declared.PlainState.{PlainState}
-use Rattle.piszczalin.specs.declared.PlainTicked.{PlainTicked}
-use Rattle.piszczalin.specs.declared.ticks.PlainStepped.{PlainStepped}
 use Rattle.piszczalin.specs.Plain.{marks_good, state_of, plain_state_of}
-use Rattle.piszczalin.specs.Parts.{jobs_of_plain, plain_jobs_of}
+use Rattle.piszczalin.specs.Parts.{jobs_of_plain, plain_after, plain_answer}
 use Rattle.piszczalin.specs.Calls.{plain_ticked, plain_tick, plain_grants}
-use Rattle.piszczalin.specs.Parts.{plain_step}
-use Rattle.piszczalin.proofs.PlainLaws.{tick_bad, tick_good, grants_good}
+use Rattle.piszczalin.proofs.PlainLaws.{plain_back, tick_good, grants_good}
 
--- what a tick can change of its answer, and an answer put together of that and the tasks and speeds of a state
-unfoldable parts_of : PlainTicked → PlainStepped
-parts_of t = record { number = t.number; done = t.state.done; jobs = t.state.jobs; tally = t.state.tally }
+module _ (s : PlainState) where
+  -- a refused tick gives the plain state back, an accepted one the next, its jobs put into bytes
+  module _ (good : marks_good s ≡ true) (report : List ℕ) (places : ℕ) where
+    kept_plain : (r : Refusal) → stepped_by (state_of s) (Err r) ≡ stepped_of (state_of s) report places → record { number = number_of r; state = s } ≡ plain_tick s report places
+    unfolding plain_ticked ticked_by
+    kept_plain r h =
+        ap (λ (x : PlainState). record { number = number_of r; state = x }) (sym (plain_back s good))
+        ∙ ap plain_ticked (tick_kept (state_of s) report places r h)
+        ∙ tick_good s good report places
 
-abbrev together : PlainState → PlainStepped → PlainTicked
-together s step =
-    record {
-      number = step.number;
-      state = record { done = step.done; tasks = s.tasks; jobs = step.jobs; ladder = s.ladder; tally = step.tally };
-    }
+    next_plain : (step : Stepped) → stepped_by (state_of s) (Ok step) ≡ stepped_of (state_of s) report places → plain_answer 0 (plain_after s step) ≡ plain_tick s report places
+    unfolding plain_ticked ticked_by plain_state_of state_of
+    next_plain step h = ap plain_ticked (tick_from (state_of s) report places step h) ∙ tick_good s good report places
 
--- bytes that are no marks: 9, and all as it was
-pub stepped_bad : (s : PlainState) (report : List ℕ) (places : ℕ) → marks_good s ≡ false → record { number = 9; done = s.done; jobs = s.jobs; tally = s.tally } ≡ plain_step s report places
-unfolding plain_step parts_of
-stepped_bad s report places e = ap parts_of (tick_bad s e report places)
+    module _ (js : Jobs) (is : js ≡ jobs_of_plain s.jobs) where
+      pub kept_from : (answer : Result Stepped Refusal) (r : Refusal) → answer ≡ Err r → stepped_by (state_from s.done s.tasks js s.ladder s.tally) answer ≡ stepped_of (state_from s.done s.tasks js s.ladder s.tally) report places → record { number = number_of r; state = s } ≡ plain_tick s report places
+      unfolding state_of
+      kept_from answer r e h =
+          let P : Jobs → Type 0 = λ j. stepped_by (state_from s.done s.tasks j s.ladder s.tally) (Err r) ≡ stepped_of (state_from s.done s.tasks j s.ladder s.tally) report places in
+          let Q : Result Stepped Refusal → Type 0 = λ a. stepped_by (state_from s.done s.tasks js s.ladder s.tally) a ≡ stepped_of (state_from s.done s.tasks js s.ladder s.tally) report places in
+          kept_plain r (subst P is (subst Q e h))
 
--- marks that are good: a tick of the state of these parts, its jobs made plain again, and the grants list after it
-module _ (s : PlainState) (e : marks_good s ≡ true) (js : Jobs) (is : js ≡ jobs_of_plain s.jobs) (report : List ℕ) where
-  pub stepped_good : (places : ℕ) (step : Stepped) (after : PlainJobs) → step ≡ stepped_of (state_from s.done s.tasks js s.ladder s.tally) report places → after ≡ plain_jobs_of step.jobs → record { number = step.number; done = step.done; jobs = after; tally = step.tally } ≡ plain_step s report places
-  unfolding plain_step stepped_of state_of plain_ticked plain_state_of parts_of
-  stepped_good places step after t p = rw (p, t, is) (ap parts_of (tick_good s e report places))
+      pub next_from : (answer : Result Stepped Refusal) (step : Stepped) → answer ≡ Ok step → stepped_by (state_from s.done s.tasks js s.ladder s.tally) answer ≡ stepped_of (state_from s.done s.tasks js s.ladder s.tally) report places → plain_answer 0 (plain_after s step) ≡ plain_tick s report places
+      unfolding state_of
+      next_from answer step e h =
+          let P : Jobs → Type 0 = λ j. stepped_by (state_from s.done s.tasks j s.ladder s.tally) (Ok step) ≡ stepped_of (state_from s.done s.tasks j s.ladder s.tally) report places in
+          let Q : Result Stepped Refusal → Type 0 = λ a. stepped_by (state_from s.done s.tasks js s.ladder s.tally) a ≡ stepped_of (state_from s.done s.tasks js s.ladder s.tally) report places in
+          next_plain step (subst P is (subst Q e h))
 
-  pub stepped_grants : (grants after : List ℕ) → after ≡ grants_of (state_from s.done s.tasks js s.ladder s.tally) report grants → after ≡ plain_grants s report grants
+  pub grants_from : (good : marks_good s ≡ true) (report grants after : List ℕ) (js : Jobs) → js ≡ jobs_of_plain s.jobs → after ≡ grants_of (state_from s.done s.tasks js s.ladder s.tally) report grants → after ≡ plain_grants s report grants
   unfolding state_of
-  stepped_grants grants after g = g ∙ rw is (grants_good s e report grants)
-
--- put together again, whether the state answered is the next one or the one given
-pub tick_whole : (s : PlainState) (report : List ℕ) (places : ℕ) (step : PlainStepped) → step ≡ plain_step s report places → together s step ≡ plain_tick s report places
-unfolding plain_step plain_tick plain_state_of state_of stepped_of parts_of
-tick_whole s report places step e = ap (together s) e ∙ go (eqb (plain_tick s report places).number 0)
-  where
-    answer : Bool → PlainTicked
-    answer b =
-        record {
-          number = (plain_tick s report places).number;
-          state = cond b (plain_state_of (tick_of (state_of s) report places).state) s;
-        }
-
-    go : (b : Bool) → together s (parts_of (answer b)) ≡ answer b
-    go true =
-        ap (λ (t : Ticked). record { number = (plain_tick s report places).number; state = plain_state_of t.state })
-        (tick_from (state_of s) report places _ refl)
-    go false = refl
+  grants_from good report grants after js is g =
+      g ∙ ap (λ (j : Jobs). grants_of (state_from s.done s.tasks j s.ladder s.tally) report grants) is ∙ grants_good s good report grants

@@ -1,15 +1,14 @@
 -- "Numbers a caller may see", at the boundary: what each exported call answers for every input, a state of any bytes too.
 use Rattle.std.specs.Prelude.{ℕ, cond, List, eqb}
 use Rattle.units.specs.Units.{ticks, speed}
-use Rattle.rules.specs.declared.Started.{Started}
-use Rattle.rules.specs.declared.Ticked.{Ticked}
-use Rattle.rules.specs.declared.Used.{Used}
+use Rattle.rules.specs.Answers.{Started, Ticked}
 use Rattle.rules.specs.Calls.{start_of, now_of, tick_of, grants_of, energy_of}
 use Rattle.piszczalin.specs.declared.PlainState.{PlainState}
 use Rattle.piszczalin.specs.declared.PlainStarted.{PlainStarted}
 use Rattle.piszczalin.specs.declared.PlainTold.{PlainTold}
 use Rattle.piszczalin.specs.declared.PlainTicked.{PlainTicked}
-use Rattle.piszczalin.specs.Plain.{marks_good, state_of, plain_state_of, plain_of}
+use Rattle.piszczalin.specs.declared.PlainUsed.{PlainUsed}
+use Rattle.piszczalin.specs.Plain.{marks_good, state_of, plain_state_of, plain_of, plain_used}
 
 -- The answers of start and tick, with the state plain.
 unfoldable pub plain_started : Started → PlainStarted
@@ -41,5 +40,5 @@ unfoldable pub plain_grants : PlainState → List ℕ → List ℕ → List ℕ
 plain_grants s report grants = cond (marks_good s) (grants_of (state_of s) report grants) grants
 
 -- energy: No. 9 where a byte is no mark, with 0; else as of the state
-unfoldable pub plain_energy : PlainState → Used
-plain_energy s = cond (marks_good s) (energy_of (state_of s)) (record { number = 9; energy = 0 })
+unfoldable pub plain_energy : PlainState → PlainUsed
+plain_energy s = cond (marks_good s) (plain_used (energy_of (state_of s))) (record { number = 9; energy = 0 })

@@ -1,16 +1,13 @@
 -- What the private functions of the boundary answer: nothing here is part of what it promises to callers.
-use Rattle.std.specs.Prelude.{ℕ, Bool, List, map}
+use Rattle.std.specs.Prelude.{ℕ, map, Result, Ok, Err}
 use Rattle.rules.specs.declared.Jobs.{Jobs}
-use Rattle.rules.specs.Words.{every}
+use Rattle.refusals.specs.declared.Refusal.{Refusal}
+use Rattle.refusals.specs.Refusals.{number_of}
+use Rattle.stepping.specs.declared.Stepped.{Stepped}
 use Rattle.piszczalin.specs.declared.PlainJobs.{PlainJobs}
 use Rattle.piszczalin.specs.declared.PlainState.{PlainState}
-use Rattle.piszczalin.specs.declared.ticks.PlainStepped.{PlainStepped}
-use Rattle.piszczalin.specs.Plain.{is_mark, over_of, mark_of}
-use Rattle.piszczalin.specs.Calls.{plain_tick}
-
--- all sixteen bytes are marks
-abbrev pub all_marks : PlainJobs → Bool
-all_marks js = every is_mark js.over
+use Rattle.piszczalin.specs.declared.PlainTicked.{PlainTicked}
+use Rattle.piszczalin.specs.Plain.{over_of, mark_of}
 
 -- the jobs that plain jobs are, where their marks are good, and the plain jobs of jobs
 abbrev pub jobs_of_plain : PlainJobs → Jobs
@@ -19,13 +16,15 @@ jobs_of_plain js = record { run = js.run; over = map over_of js.over }
 abbrev pub plain_jobs_of : Jobs → PlainJobs
 plain_jobs_of js = record { run = js.run; over = map mark_of js.over }
 
--- of a tick of a plain state its number, and the ticks done, the jobs and the counts that plain_tick answers: a tick leaves the tasks and the speeds as they are
-unfoldable pub plain_step : PlainState → List ℕ → ℕ → PlainStepped
-plain_step s report grantPlaces =
-    let answer = plain_tick s report grantPlaces in
-    record {
-      number = answer.number;
-      done = answer.state.done;
-      jobs = answer.state.jobs;
-      tally = answer.state.tally;
-    }
+-- an answer's number: 0 where it is accepted
+abbrev pub number_by : {A : Type 0} → Result A Refusal → ℕ
+number_by (Ok x) = 0
+number_by (Err r) = number_of r
+
+-- a plain state with what a tick changed, and tick's answer of a number and a state
+abbrev pub plain_after : PlainState → Stepped → PlainState
+plain_after s step =
+    record { done = step.done; tasks = s.tasks; jobs = plain_jobs_of step.jobs; ladder = s.ladder; tally = step.tally }
+
+abbrev pub plain_answer : ℕ → PlainState → PlainTicked
+plain_answer n s = record { number = n; state = s }

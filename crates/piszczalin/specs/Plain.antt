@@ -1,12 +1,13 @@
--- The state and now's answer in plain numbers: a mark is a byte, a choice is two numbers.
+-- The state and the answers of now and energy in plain numbers: a mark is a byte, a choice is two numbers.
 use Rattle.std.specs.Prelude.{ℕ, Bool, cond, map, eqb, leb}
 use Rattle.units.specs.Units.{ticks}
 use Rattle.rules.specs.declared.State.{State}
-use Rattle.rules.specs.declared.Told.{Told}
+use Rattle.rules.specs.Answers.{Told, Used}
 use Rattle.rules.specs.Choice.{task_of, due_of}
 use Rattle.rules.specs.Words.{every}
 use Rattle.piszczalin.specs.declared.PlainState.{PlainState}
 use Rattle.piszczalin.specs.declared.PlainTold.{PlainTold}
+use Rattle.piszczalin.specs.declared.PlainUsed.{PlainUsed}
 
 -- A mark is 1 for a job that is over and 0 for one that is not; no other byte is a mark.
 unfoldable pub is_mark : ℕ → Bool
@@ -46,3 +47,7 @@ plain_state_of s =
 -- now's answer: the number and the speed as they are; the chosen task and its deadline, 0 and 0 where nothing is ready.
 unfoldable pub plain_of : Told → PlainTold
 plain_of told = record { number = told.number; task = task_of told.choice; deadline = ticks (due_of told.choice); speed = told.speed }
+
+-- energy's answer, number by number
+unfoldable pub plain_used : Used → PlainUsed
+plain_used used = record { number = used.number; energy = used.energy }

@@ -2,14 +2,15 @@
 // pointer and a length, now's choice goes over in plain numbers, and a mark is a byte: any bytes are taken, and those that are no sound state are answered with 9.
 #![tactic(auto)]
 
-mod choices;
+mod answers;
 mod marks;
 mod ticks;
 
 ghost use Rattle.std.specs.Prelude.{◌≡◌, length};
 ghost use Rattle.piszczalin.specs.Calls.{plain_start, plain_now, plain_tick, plain_grants, plain_energy};
 
-use rules::{Ladder, Tally, Tasks, Used};
+use refusals::Refusal;
+use rules::{Ladder, Tally, Tasks};
 use units::{Cycles, Speed, Ticks};
 
 // Each task's current job: the cycles that it ran, and its mark, 1 where it is over and 0 where it is not.
@@ -32,6 +33,7 @@ pub struct PlainState {
 }
 
 // What start answers: a number, and the fresh state or the all-zero one.
+// Stays: the C interface takes a number beside a value, here and in the three answers below.
 #[repr(C)]
 #[derive(Clone, Copy)]
 pub struct PlainStarted {
@@ -57,7 +59,16 @@ pub struct PlainTicked {
     pub state: PlainState,
 }
 
+// What energy answers: a number, and the energy or 0.
+#[repr(C)]
+#[derive(Clone, Copy)]
+pub struct PlainUsed {
+    pub number: u64,
+    pub energy: u64,
+}
+
 // start: from lent lists to 0 and the fresh state, or to the smallest number of 1 to 8 that applies and the all-zero state.
+#[tactic(auto, unfolding(crate::specs::Calls::plain_start))]
 pub fn piszczalin_start(
     periods: &[u64],
     reserves: &[u64],
@@ -66,26 +77,17 @@ pub fn piszczalin_start(
 ) -> PlainStarted
     ensures { result ≡ plain_start periods.now reserves.now speeds.now volts.now }
 {
-    let started = governor::start(periods, reserves, speeds, volts);
-    PlainStarted {
-        number: started.number,
-        state: marks::plain_state(started.state),
-    }
+    PlainStarted::from(governor::start(periods, reserves, speeds, volts))
 }
 
 // now: from any state to the choice and the speed; refused (9, 10, 12), nothing chosen and speed 0.
 pub fn piszczalin_now(state: PlainState) -> PlainTold
     ensures { result ≡ plain_now state }
 {
-    if !marks::good(state.jobs) {
-        return PlainTold {
-            number: 9,
-            task: 0,
-            deadline: Ticks(0),
-            speed: Speed(0),
-        };
+    if !marks::good(state.jobs.over) {
+        return PlainTold::from(Err(Refusal::Unsound));
     }
-    choices::plainly(governor::now(marks::state_of(state)))
+    PlainTold::from(governor::now(marks::state_of(&state)))
 }
 
 // tick: from any state and a report to the next state, each task's cycles written to the grants list; refused (9 to 13), the state given and the list as it was.
@@ -93,33 +95,18 @@ pub fn piszczalin_tick(state: PlainState, report: &[u64], grants: &mut [u64]) ->
     ensures { (result ≡ plain_tick state report.now (length grants.old))
         × (grants.new ≡ plain_grants state report.now grants.old) }
 {
-    let step = ticks::stepped(state, report, grants);
-    let done = step.done;
-    let tasks = state.tasks;
-    let jobs = step.jobs;
-    let ladder = state.ladder;
-    let tally = step.tally;
-    PlainTicked {
-        number: step.number,
-        state: PlainState {
-            done: done,
-            tasks: tasks,
-            jobs: jobs,
-            ladder: ladder,
-            tally: tally,
-        },
-    }
+    let mut ticked = PlainTicked { number: 0, state };
+    let answer = ticks::step(&mut ticked.state, report, grants);
+    ticked.number = answers::number(answer);
+    ticked
 }
 
 // energy: from any state to the sum over speeds of count x volts x volts; refused (9), 0.
-pub fn piszczalin_energy(state: PlainState) -> Used
+pub fn piszczalin_energy(state: PlainState) -> PlainUsed
     ensures { result ≡ plain_energy state }
 {
-    if !marks::good(state.jobs) {
-        return Used {
-            number: 9,
-            energy: 0,
-        };
+    if !marks::good(state.jobs.over) {
+        return PlainUsed::from(Err(Refusal::Unsound));
     }
-    governor::energy(marks::state_of(state))
+    PlainUsed::from(governor::energy(marks::state_of(&state)))
 }

@@ -1,55 +1,48 @@
-// A tick by the parts of a plain state: its number and all that it can change.
+// A tick of a plain state.
 ghost use Rattle.std.specs.Prelude.{◌≡◌, length};
-ghost use Rattle.piszczalin.specs.Calls.{plain_grants};
-ghost use Rattle.piszczalin.specs.Parts.{plain_step};
+ghost use Rattle.piszczalin.specs.Calls.{plain_tick, plain_grants};
+ghost use Rattle.piszczalin.specs.Parts.{number_by, plain_after, plain_answer};
 
 use crate::{PlainJobs, PlainState, marks};
-use rules::Tally;
-use units::Ticks;
+use refusals::Refusal;
+use stepping::Stepped;
 
-// What a tick answers of a plain state: its number, and all that it can change; refused, as it was.
-#[derive(Drop)]
-pub(crate) struct PlainStepped {
-    pub(crate) number: u64,
-    pub(crate) done: Ticks,
-    pub(crate) jobs: PlainJobs,
-    pub(crate) tally: Tally,
-}
-
-// A tick of a plain state by a report, each task's cycles written to the grants list; refused (9 to 13), all as it was.
-pub(crate) fn stepped(state: PlainState, report: &[u64], grants: &mut [u64]) -> PlainStepped
-    ensures { (result ≡ plain_step state report.now (length grants.old))
-        × (grants.new ≡ plain_grants state report.now grants.old) }
+// A tick of a plain state by a report, in place, each task's cycles written to the grants list; or 9 to 13, and both as they were.
+pub(crate) fn step(
+    state: &mut PlainState,
+    report: &[u64],
+    grants: &mut [u64],
+) -> Result<(), Refusal>
+    ensures { (plain_answer (number_by result) state.new ≡ plain_tick state.old report.now (length grants.old))
+        × (grants.new ≡ plain_grants state.old report.now grants.old) }
 {
-    let done = state.done;
-    let jobs = state.jobs;
-    let tally = state.tally;
-    if !marks::good(jobs) {
-        return PlainStepped {
-            number: 9,
-            done: done,
-            jobs: jobs,
-            tally: tally,
-        };
+    if !marks::good(state.jobs.over) {
+        return Err(Refusal::Unsound);
     }
-    let tasks = state.tasks;
-    let ladder = state.ladder;
-    let step = stepping::step(
-        done,
-        tasks,
-        marks::jobs_of(jobs),
-        ladder,
-        tally,
+    let jobs = marks::jobs_of(state.jobs);
+    match &stepping::step(
+        state.done,
+        &state.tasks,
+        &jobs,
+        &state.ladder,
+        &state.tally,
         report,
         grants,
-    );
-    let next = step.done;
-    let after = marks::plain_jobs(step.jobs);
-    let counted = step.tally;
-    PlainStepped {
-        number: step.number,
-        done: next,
-        jobs: after,
-        tally: counted,
+    ) {
+        Ok(step) => {
+            change(state, step);
+            Ok(())
+        }
+        Err(refusal) => Err(*refusal),
     }
+}
+
+// A plain state with what a tick changed.
+fn change(state: &mut PlainState, step: &Stepped)
+    ensures { state.new ≡ plain_after state.old step.now }
+{
+    let jobs = PlainJobs::from(step.jobs);
+    state.done = step.done;
+    state.jobs = jobs;
+    state.tally = step.tally;
 }

@@ -4,8 +4,7 @@
 ghost use Rattle.std.specs.Prelude.{◌≡◌, length};
 ghost use Rattle.piszczalin.specs.Calls.{plain_start, plain_now, plain_tick, plain_grants, plain_energy};
 
-use piszczalin::{PlainStarted, PlainState, PlainTicked, PlainTold};
-use rules::Used;
+use piszczalin::{PlainStarted, PlainState, PlainTicked, PlainTold, PlainUsed};
 
 // start: from lent lists to 0 and the fresh state, or to the smallest number of 1 to 8 that applies and the all-zero state.
 #[unsafe(no_mangle)]
@@ -43,7 +42,7 @@ pub extern "C" fn piszczalin_tick(
 
 // energy: from any state to the sum over speeds of count x volts x volts; refused (9), 0.
 #[unsafe(no_mangle)]
-pub extern "C" fn piszczalin_energy(state: PlainState) -> Used
+pub extern "C" fn piszczalin_energy(state: PlainState) -> PlainUsed
     ensures { result ≡ plain_energy state }
 {
     piszczalin::piszczalin_energy(state)

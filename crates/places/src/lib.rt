@@ -9,72 +9,42 @@ ghost use Rattle.places.specs.Places.{job_right, jobs_past};
 use rules::{Job, Jobs, Tasks};
 
 // No. 3, 4 and the run of the current job: below the reserve while it is not over, then from 1 to the reserve.
-#[tactic(auto, using(crate::proofs::PlaceLaws::period_out, crate::proofs::PlaceLaws::reserve_out, crate::proofs::PlaceLaws::over_low, crate::proofs::PlaceLaws::over_right, crate::proofs::PlaceLaws::ready_right, rules::proofs::Ranges::in_range, rules::proofs::Ranges::too_low, rules::proofs::Ranges::too_high))]
+#[tactic(auto, using(std::proofs::lemmas::Bool::Decides::nat_tests), unfolding(crate::specs::Places::job_right, rules::specs::Numbers::run_right, rules::specs::Limits::up_to_most))]
 pub fn job_right(job: Job) -> bool
     ensures { result ≡ job_right job }
 {
-    let period = job.period;
-    if period.0 < 1 {
+    if !(1..=1000000).contains(&job.period.0) || !(1..=1000000000).contains(&job.reserve.0) {
         return false;
     }
-    if period.0 > 1000000 {
-        return false;
-    }
-    let reserve = job.reserve;
-    if reserve.0 < 1 {
-        return false;
-    }
-    if reserve.0 > 1000000000 {
-        return false;
-    }
-    let run = job.run;
     if job.over {
-        if run.0 < 1 {
-            return false;
-        }
-        return run.0 <= reserve.0;
+        return (1..=job.reserve.0).contains(&job.run.0);
     }
-    run.0 < reserve.0
+    job.run < job.reserve
 }
 
-// Whether a place holds zeros and no mark: the numbers are all 0 where their bits are.
+// Whether a place holds zeros and no mark.
+#[tactic(auto, unfolding(rules::specs::Numbers::unused_job))]
 fn unused_job(job: Job) -> bool
     ensures { result ≡ unused_job job }
 {
-    let period = job.period;
-    let reserve = job.reserve;
-    let run = job.run;
-    let bits = period.0 | reserve.0 | run.0;
-    if bits != 0 {
-        return false;
-    }
-    let mark = job.over;
-    if mark {
-        return false;
-    }
-    true
+    job == Job::default()
 }
 
 // Whether every place from the count on is unused.
-pub fn rest_unused(tasks: Tasks, jobs: Jobs) -> bool
-    ensures { result ≡ every unused_job (jobs_past tasks jobs) }
+#[tactic(auto, using(crate::proofs::PlaceLaws::rest_is, crate::proofs::PlaceLaws::rest_on, crate::proofs::PlaceLaws::rest_stop, crate::proofs::PlaceLaws::rest_end))]
+pub fn rest_unused(tasks: &Tasks, jobs: &Jobs) -> bool
+    ensures { result ≡ every unused_job (jobs_past tasks.now jobs.now) }
 {
-    let periods = tasks.periods;
-    let reserves = tasks.reserves;
-    let run = jobs.run;
-    let over = jobs.over;
-    let mut i = tasks.count;
-    while i < 16 {
+    for i in tasks.count..16 {
         let job = Job {
-            period: periods[i],
-            reserve: reserves[i],
-            run: run[i],
-            over: over[i],
+            period: tasks.periods[i],
+            reserve: tasks.reserves[i],
+            run: jobs.run[i],
+            over: jobs.over[i],
         };
         if !unused_job(job) {
             return false;
         }
-        i += 1;
     }
     true
 }

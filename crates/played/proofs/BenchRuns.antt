@@ -5,16 +5,15 @@ use mathlib.Core.Logic.{inl, inr, ⊎_elim}
 use Prim.Native.Nat.{ℕ, ◌+◌}
 use native.Mathlib.Omega.{arith}
 use lib.ListN.{length}
-use lib.Seq.{length-take-le}
 use Rattle.rules.specs.declared.State.{State}
-use Rattle.rules.specs.declared.Started.{Started}
-use Rattle.rules.specs.declared.Used.{Used}
+use Rattle.rules.specs.Answers.{Started}
+use Rattle.rules.specs.Answers.{Used}
 use Rattle.rules.specs.Words.{total}
 use Rattle.rules.specs.Calls.{fresh_tally, fresh_state, zero_state, energy_of}
 use Rattle.rules.proofs.Lists.{up_to-ext}
 use Rattle.runfile.specs.declared.RunFile.{RunFile}
+use Rattle.std.specs.Prelude.{Ok}
 use Rattle.runfile.specs.RunFile.{run_file_of}
-use Rattle.runfile.proofs.Good.{good_file}
 use Rattle.player.specs.Plays.{Play, ends_in, ended, play_of, start_in}
 use Rattle.played.proofs.StartLaws.{start_is_sound, start_is_shaped, start_done, start_count}
 use Rattle.played.proofs.TextLaws.{of_text, text_played, run_room}
@@ -37,18 +36,13 @@ unfolding started table_in
 started_in f = refl
 
 -- a run file whose table start takes
-module _ (text : List ℕ) (e : (run_file_of text).number ≡ 0) (n : (start_in (run_file_of text)).number ≡ 0) where
-  abbrev file : RunFile
-  file = run_file_of text
-
+module _ (text : List ℕ) (file : RunFile) (is : run_file_of text ≡ Ok file) (n : (start_in file).number ≡ 0) where
   abbrev first : State
   first = (start_in file).state
 
   -- the fresh state has as many tasks as the file has task lines
-  tasks_in : first.tasks.count ≡ file.tasks.count
-  tasks_in =
-      let good = (good_file text e).tasks in
-      start_count _ _ _ _ n ∙ length-take-le file.tasks.count file.tasks.firsts (omega (arith, good.few, good.firsts))
+  tasks_in : first.tasks.count ≡ length file.tasks.firsts.items
+  tasks_in = start_count _ _ _ _ n
 
   -- the calls of its ticks are those from tick 0 on
   calls_in_lem : (many : ℕ) → calls_from (ends_in file) first.tasks.count first.done.0 many ≡ calls_in file many
@@ -58,7 +52,7 @@ module _ (text : List ℕ) (e : (run_file_of text).number ≡ 0) (n : (start_in 
       (up_to-ext many _ _ (λ k l. ap (call_at (ends_in file) _) (omega arith)))
 
   -- and the call after so many of them is that of the tick of this number
-  call_in : (many : ℕ) → call_at (ends_in file) first.tasks.count (first.done.0 + many) ≡ call_at (ends_in file) file.tasks.count many
+  call_in : (many : ℕ) → call_at (ends_in file) first.tasks.count (first.done.0 + many) ≡ call_at (ends_in file) (length file.tasks.firsts.items) many
   call_in many = rw (tasks_in, start_done _ _ _ _ n) (ap (call_at (ends_in file) _) (omega arith))
 
   -- a play that is the run of the calls from the fresh state on is the file's run
@@ -74,8 +68,8 @@ module _ (text : List ℕ) (e : (run_file_of text).number ≡ 0) (n : (start_in 
   -- its play is such a run
   pub play_is_run : IsTheRun file (play_of text)
   play_is_run =
-      rw (text_played text e n)
-      (run_of _ (run_from (ends_in file) file.ticks.0 first (start_is_sound _ _ _ _ n) (start_is_shaped _ _ _ _ n) (run_room text e n)))
+      rw (text_played text file is n)
+      (run_of _ (run_from (ends_in file) file.ticks.0 first (start_is_sound _ _ _ _ n) (start_is_shaped _ _ _ _ n) (run_room text file is n)))
 
   -- so none of its jobs is late
   pub run_not_late : (play_of text).state.tally.late ≡ 0
@@ -102,13 +96,13 @@ none_played number = refl
 -- so no job is late whatever the text is
 pub not_late : (text : List ℕ) → (play_of text).state.tally.late ≡ 0
 not_late text =
-    of_text text (λ p. p.state.tally.late ≡ 0) (λ e. none_played 14) (λ e n. none_played (start_in (run_file_of text)).number)
-    (λ e n. rw (text_played text e n) at (run_not_late text e n))
+    of_text text (λ p. p.state.tally.late ≡ 0) (none_played 14) (λ f is n. none_played (start_in f).number)
+    (λ f is n. rw (text_played text f is n) at (run_not_late text f is n))
 
 -- a run that is not refused is that of a run file whose table start takes, so its energy is that of the ticks shown
-pub energy_shown : (text : List ℕ) → (play_of text).number ≡ 0 → (energy_of (play_of text).state).energy ≡ total (cost_in (table_in (run_file_of text))) (play_of text).ticks
+pub energy_shown : (text : List ℕ) → (play_of text).number ≡ 0 → (f : RunFile) × (run_file_of text ≡ Ok f) × ((energy_of (play_of text).state).energy ≡ total (cost_in (table_in f)) (play_of text).ticks)
 unfolding ended
 energy_shown text =
-    of_text text (λ p. p.number ≡ 0 → (energy_of p.state).energy ≡ total (cost_in (table_in (run_file_of text))) p.ticks)
-    (λ e z. absurd (omega arith)) (λ e n z. absurd (n z))
-    (λ e n z. rw (text_played text e n) at (run_energy text e n))
+    of_text text (λ p. p.number ≡ 0 → (f : RunFile) × (run_file_of text ≡ Ok f) × ((energy_of p.state).energy ≡ total (cost_in (table_in f)) p.ticks))
+    (λ z. absurd (omega arith)) (λ g is n z. absurd (n z))
+    (λ g is n z. (g, is, rw (text_played text g is n) at (run_energy text g is n)))

@@ -10,7 +10,7 @@ use lib.ListN.{length, get_or, length-append}
 use Rattle.units.specs.Units.{cycles}
 use Rattle.units.specs.declared.Cycles.{Cycles}
 use Rattle.rules.specs.declared.State.{State}
-use Rattle.rules.specs.declared.Ticked.{Ticked}
+use Rattle.rules.specs.Answers.{Ticked}
 use Rattle.rules.specs.Words.{total}
 use Rattle.rules.specs.Limits.{most_ticks}
 use Rattle.rules.specs.State.{Shaped, count_at}

@@ -7,7 +7,7 @@ use Prim.Native.Nat.{ℕ, suc, ◌+◌, ◌≤◌, ◌<◌}
 use native.Mathlib.Omega.{arith}
 use lib.ListN.{length, length-replicate}
 use Rattle.rules.specs.declared.State.{State}
-use Rattle.rules.specs.declared.Ticked.{Ticked}
+use Rattle.rules.specs.Answers.{Ticked}
 use Rattle.rules.specs.Words.{up_to}
 use Rattle.rules.specs.Limits.{most_ticks}
 use Rattle.rules.specs.State.{Shaped}

@@ -1,7 +1,6 @@
 -- The theorems, one for each statement of specs/Promised and specs/PlaysAreRuns.
 use mathlib.Core.Path.{ap, sym, ◌∙◌}
-use Rattle.rules.specs.declared.Started.{Started}
-use Rattle.runfile.specs.RunFile.{run_file_of}
+use Rattle.rules.specs.Answers.{Started}
 use Rattle.played.specs.PlaysAreRuns.{EveryPlayIsARun, NeverLateOnTheBench, EnergyIsOfTheTicks}
 use Rattle.played.proofs.BenchRuns.{started_in, play_is_run, not_late, energy_shown}
 use Rattle.played.specs.Promised.{EveryRunFromASoundState, EveryPlay, OnlyTheseNumbers, AlwaysEnough}
@@ -31,7 +30,7 @@ always_enough = text_enough
 -- What the bench plays is a run.
 pub every_play_runs : EveryPlayIsARun
 unfolding EveryPlayIsARun
-every_play_runs text e n = play_is_run text e (ap (λ (r : Started). r.number) (sym (started_in (run_file_of text))) ∙ n)
+every_play_runs text f is n = play_is_run text f is (ap (λ (r : Started). r.number) (sym (started_in f)) ∙ n)
 
 -- Demand 3: never late, on the bench.
 pub never_late_played : NeverLateOnTheBench

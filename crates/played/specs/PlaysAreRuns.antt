@@ -1,5 +1,5 @@
 -- What the bench plays is a run as `promises` speaks of it: start, and a call of tick for each tick that it shows. So each promise about runs is one about the bench.
-use Rattle.std.specs.Prelude.{ℕ, ◌-◌, ◌*◌, ◌<◌, ◌≡◌, List, map, ◌⊎◌, length, take, replicate}
+use Rattle.std.specs.Prelude.{ℕ, ◌-◌, ◌*◌, ◌<◌, ◌≡◌, List, map, ◌⊎◌, length, replicate, Ok}
 use Rattle.rules.specs.Words.{up_to, total}
 use Rattle.rules.specs.Calls.{energy_of}
 use Rattle.runfile.specs.declared.RunFile.{RunFile}
@@ -13,10 +13,10 @@ use Rattle.promises.specs.Counts.{volts_beside}
 unfoldable pub table_in : RunFile → Table
 table_in f =
     record {
-      periods = take f.tasks.count f.tasks.firsts;
-      reserves = take f.tasks.count f.tasks.seconds;
-      speeds = take f.speeds.count f.speeds.firsts;
-      volts = take f.speeds.count f.speeds.seconds;
+      periods = f.tasks.firsts.items;
+      reserves = f.tasks.seconds.items;
+      speeds = f.speeds.firsts.items;
+      volts = f.speeds.seconds.items;
     }
 
 -- the call of a tick of n tasks: the report of its end lines, and a grants list of zeros
@@ -25,7 +25,7 @@ call_at ends n tick = record { report = report_of ends n tick; grants = replicat
 
 -- the calls of the first so many ticks of a run file
 unfoldable pub calls_in : RunFile → ℕ → List Call
-calls_in f many = up_to many (call_at (ends_in f) f.tasks.count)
+calls_in f many = up_to many (call_at (ends_in f) (length f.tasks.firsts.items))
 
 -- an accepted tick as the bench shows it: what is not granted is idle
 unfoldable pub shown : Step → Tick
@@ -37,13 +37,13 @@ pub record IsTheRun (f : RunFile) (p : Play) : Type 0 where
   pub ticks : p.ticks ≡ map shown (steps (started (table_in f)).state (calls_in f (length p.ticks)))
   -- not refused, it shows all of the run line's ticks; else it shows fewer, and the call of the next one is refused with 13
   pub ends : ((p.number ≡ 0) × (length p.ticks ≡ f.ticks.0))
-      ⊎ ((p.number ≡ 13) × ((length p.ticks < f.ticks.0) × ((ticked p.state (call_at (ends_in f) f.tasks.count (length p.ticks))).number ≡ 13)))
+      ⊎ ((p.number ≡ 13) × ((length p.ticks < f.ticks.0) × ((ticked p.state (call_at (ends_in f) (length f.tasks.firsts.items) (length p.ticks))).number ≡ 13)))
 
 -- so is that of every run file whose table start takes
 unfoldable pub EveryPlayIsARun : Type 0
 EveryPlayIsARun =
-    (text : List ℕ) → (run_file_of text).number ≡ 0 → (started (table_in (run_file_of text))).number ≡ 0
-    → IsTheRun (run_file_of text) (play_of text)
+    (text : List ℕ) (f : RunFile) → run_file_of text ≡ Ok f → (started (table_in f)).number ≡ 0
+    → IsTheRun f (play_of text)
 
 -- Demand 3, of the bench: whatever text it is fed, no job is ever late.
 unfoldable pub NeverLateOnTheBench : Type 0
@@ -53,8 +53,8 @@ NeverLateOnTheBench = (text : List ℕ) → (play_of text).state.tally.late ≡ 
 abbrev pub cost_in : Table → Tick → ℕ
 cost_in table x = granted_in x * volts_beside table x.speed * volts_beside table x.speed
 
--- Demand 2, of the bench: the energy of a run that is not refused is that of the ticks shown.
+-- Demand 2, of the bench: a run that is not refused is that of a run file, and its energy is that of the ticks shown.
 unfoldable pub EnergyIsOfTheTicks : Type 0
 EnergyIsOfTheTicks =
     (text : List ℕ) → (play_of text).number ≡ 0
-    → (energy_of (play_of text).state).energy ≡ total (cost_in (table_in (run_file_of text))) (play_of text).ticks
+    → (f : RunFile) × (run_file_of text ≡ Ok f) × ((energy_of (play_of text).state).energy ≡ total (cost_in (table_in f)) (play_of text).ticks)

@@ -1,12 +1,14 @@
 -- What is promised of every run that the bench plays: its ticks, the state that it ends in, and the numbers that it can be refused with.
-use Rattle.std.specs.Prelude.{ℕ, ◌+◌, ◌*◌, ◌≤◌, ◌≡◌, true, List, [], ◌∷◌, ◌⊎◌, length}
+use Rattle.std.specs.Prelude.{ℕ, ◌+◌, ◌*◌, ◌≤◌, ◌≡◌, true, List, [], ◌∷◌, ◌⊎◌, length, Ok}
 use Rattle.units.specs.declared.Cycles.{Cycles}
 use Rattle.rules.specs.declared.State.{State}
 use Rattle.rules.specs.Words.{total}
 use Rattle.rules.specs.Limits.{most_tasks, most_speed, most_ticks}
 use Rattle.rules.specs.State.{Shaped}
 use Rattle.rules.specs.Numbers.{sound}
-use Rattle.runfile.specs.RunFile.{most_run_ticks, run_file_of}
+use Rattle.runfile.specs.declared.RunFile.{RunFile}
+use Rattle.runfile.specs.RunFile.{most_run_ticks}
+use Rattle.runfile.specs.RunFile.{run_file_of}
 use Rattle.player.specs.Plays.{End, Tick, Play, play_from, play_of}
 use Rattle.player.specs.Rows.{rows_of, enough}
 
@@ -61,9 +63,9 @@ pub record PlayRight (text : List ℕ) (p : Play) : Type 0 where
   pub granted_all : counted_in p.state ≡ total granted_in p.ticks
   pub idle_all : p.state.tally.idle.0 ≡ total (λ x. x.idle) p.ticks
   pub cycles_most : counted_in p.state + p.state.tally.idle.0 ≤ 10_000_000_000
-  -- not refused, its last state is sound, and it has as many ticks as the run line names
+  -- not refused, its last state is sound, and the text is a run file and the run has as many ticks as the run line names
   pub is_sound : p.number ≡ 0 → sound p.state ≡ true
-  pub all_played : p.number ≡ 0 → length p.ticks ≡ (run_file_of text).ticks.0
+  pub all_played : p.number ≡ 0 → (f : RunFile) × (run_file_of text ≡ Ok f) × (length p.ticks ≡ f.ticks.0)
 
 unfoldable pub EveryPlay : Type 0
 EveryPlay = (text : List ℕ) → PlayRight text (play_of text)

@@ -8,7 +8,7 @@ use native.Mathlib.Numerals.{add-one}
 use borrow.Author.Tests.{eq-eqb, ne_eqb}
 use lib.ListN.{length, get_or, set, drop, drop_of_length-le}
 use Rattle.rules.proofs.Lists.{rest_cons}
-use Rattle.player.specs.Parts.{in_front, past_tick, entered_for, entered, Named}
+use Rattle.player.specs.Parts.{in_front, past_tick, entered_for, entered}
 
 module _ (when : List ℕ) (t k : ℕ) where
   -- a line of the tick is one more in front
@@ -45,21 +45,3 @@ module _ (when who cycles : List ℕ) (t k : ℕ) (report : List ℕ) where
   pub enter_none : in_front t (drop k when) ≡ 0 → entered when who cycles t k report ≡ report
   unfolding entered entered_for
   enter_none z = rw z
-
--- a line's places in the lists beside, and its task in the report
-module _ (when who cycles : List ℕ) (n k : ℕ) (p : Named when who cycles n) (h : k < length when) where
-  pub in_who : k < length who
-  unfolding Named
-  in_who = omega (arith, p.0)
-
-  pub in_cycles : k < length cycles
-  unfolding Named
-  in_cycles = omega (arith, p.1)
-
-  pub named_some : 1 ≤ get_or who k 0
-  unfolding Named
-  named_some = (p.2 k h).0
-
-  pub named_within : get_or who k 0 - 1 < n
-  unfolding Named
-  named_within = omega (arith, p.2 k h)

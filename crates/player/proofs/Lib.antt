@@ -1,5 +1,4 @@
 pub mod Entries
-pub mod Begins
 pub mod Shared
 pub mod RowParts
 pub mod TickRows
@@ -8,3 +7,4 @@ pub mod Reports
 pub mod Lines
 pub mod Runs
 pub mod Outcomes
+pub mod Answered

@@ -3,7 +3,7 @@ use mathlib.Core.Path.{◌≡◌, refl, sym, ap, ◌∙◌}
 use mathlib.Core.Bool.{Bool, true, false, cond}
 use mathlib.Core.List.{List, [], ◌∷◌, append_assoc}
 use Prim.Native.Nat.{ℕ, suc, ◌+◌, ◌-◌, ◌*◌, ◌≤◌, ◌<◌}
-use native.Mathlib.Nat.{add-mul, mul-le-mul, le_refl, zero-mul}
+use native.Mathlib.Nat.{mul-le-mul, le_refl, zero-mul}
 use native.Mathlib.Omega.{arith}
 use borrow.Author.Tests.{ne_eqb}
 use borrow.Rule.Slice.PartMut.{put_mid, put_same, Post-is}
@@ -13,7 +13,7 @@ use lib.Seq.{sets, length-sets, sets-eq}
 use Rattle.units.specs.Units.{cycles}
 use Rattle.rules.specs.declared.Tasks.{Tasks}
 use Rattle.rules.specs.declared.State.{State}
-use Rattle.rules.specs.declared.Ticked.{Ticked}
+use Rattle.rules.specs.Answers.{Ticked}
 use Rattle.rules.specs.Words.{up_to}
 use Rattle.rules.specs.Choice.{speed_place, speed_of}
 use Rattle.rules.specs.Settlement.{settled}
@@ -23,10 +23,9 @@ use Rattle.rules.specs.Calls.{tick_of, grants_of}
 use Rattle.rules.proofs.Lists.{length-up_to}
 use Rattle.rules.proofs.CallRows.{tick_accepted}
 use Rattle.words.proofs.Stores.{sets_append}
-use Rattle.player.specs.declared.Outcome.TheVariants.{Ended}
 use Rattle.player.specs.Plays.{End, Play, report_of, tick_played, ended, before, play_from}
-use Rattle.player.specs.Rows.{row_of, rows_of}
-use Rattle.player.specs.Parts.{past_tick, played_as}
+use Rattle.player.specs.Rows.{ending_of, row_of, rows_of}
+use Rattle.player.specs.Parts.{past_tick}
 use Rattle.player.proofs.TickRows.{number_is}
 use Rattle.player.proofs.Cursor.{Stands, stands_first, stands_next}
 use Rattle.player.proofs.Lines.{Lines}
@@ -69,49 +68,48 @@ row_places s report = rw (length-append _ ((settled s (speed_of s) report).left.
     go true = length-up_to s.tasks.count _
     go false = length-replicate s.tasks.count 0
 
--- a run of so many ticks, from a state and a list of rows, at tick t: the cursor among the end lines, the place of the next row, and what is still to come
-pub record Going (ends : List End) (when : List ℕ) (run : ℕ) (first : State) (rows₀ : List ℕ) (s : State) (rows : List ℕ) (t next at : ℕ) : Type 0 where
-  pub on : t ≤ run
+-- a run of so many ticks, from a state and a list of rows, at tick t: the cursor among the end lines, and what is still to come; tick t's row begins at t rows' places
+pub record Going (ends : List End) (when : List ℕ) (run : ℕ) (first : State) (rows₀ : List ℕ) (s : State) (rows : List ℕ) (t next : ℕ) : Type 0 where
   pub done : s.done.0 ≡ t
   pub table : s.tasks ≡ first.tasks
   pub cursor : Stands (λ i. get_or when i 0) (length when) t next
-  pub place : at ≡ t * (first.tasks.count + 2)
   pub places : length rows ≡ length rows₀
-  pub to_come : played_as (play_from ends (run - t) s) ≡ played_as (play_from ends run first)
-  pub rows_to_come : sets rows at (rows_of (play_from ends (run - t) s).ticks) ≡ sets rows₀ 0 (rows_of (play_from ends run first).ticks)
+  pub to_come : ending_of (play_from ends (run - t) s) ≡ ending_of (play_from ends run first)
+  pub rows_to_come : sets rows (t * (first.tasks.count + 2)) (rows_of (play_from ends (run - t) s).ticks) ≡ sets rows₀ 0 (rows_of (play_from ends run first).ticks)
 
 -- before its first tick all of it is to come
-pub going_first : (ends : List End) (when : List ℕ) (run : ℕ) (first : State) (rows : List ℕ) → first.done.0 ≡ 0 → Going ends when run first rows first rows 0 0 0
+pub going_first : (ends : List End) (when : List ℕ) (run : ℕ) (first : State) (rows : List ℕ) → first.done.0 ≡ 0 → Going ends when run first rows first rows 0 0
 going_first ends when run first rows fresh =
     let all : run - 0 ≡ run = omega arith in
     record {
-      on = omega arith;
       done = fresh;
       table = refl;
       cursor = stands_first (λ i. get_or when i 0) (length when);
-      place = omega (arith, zero-mul (first.tasks.count + 2));
       places = refl;
       to_come = rw all;
-      rows_to_come = rw all;
+      rows_to_come = rw (all, zero-mul (first.tasks.count + 2));
     }
 
-module _ (ends : List End) (when : List ℕ) (run : ℕ) (first : State) (rows₀ : List ℕ) (s : State) (rows : List ℕ) (t next at : ℕ) (g : Going ends when run first rows₀ s rows t next at) where
+module _ (ends : List End) (when : List ℕ) (run : ℕ) (first : State) (rows₀ : List ℕ) (s : State) (rows : List ℕ) (t next : ℕ) (g : Going ends when run first rows₀ s rows t next) where
+  -- where tick t's row begins
+  abbrev at : ℕ
+  at = t * (first.tasks.count + 2)
+
   -- after its last tick nothing is, and it ended with 0
-  pub going_ends : run ≤ t → (record { outcome = Ended 0; state = s } ≡ played_as (play_from ends run first)) × (rows ≡ sets rows₀ 0 (rows_of (play_from ends run first).ticks))
-  unfolding play_from ended played_as rows_of
+  pub going_ends : run ≤ t → (record { number = 0; state = s } ≡ ending_of (play_from ends run first)) × (rows ≡ sets rows₀ 0 (rows_of (play_from ends run first).ticks))
+  unfolding play_from ended ending_of rows_of
   going_ends h =
       let none : run - t ≡ 0 = omega arith in
       (rw none at g.to_come, rw none at g.rows_to_come)
 
-  -- until then there is room for a row
-  pub row_room : t < run → run * (first.tasks.count + 2) ≤ length rows₀ → at + first.tasks.count + 2 ≤ length rows
+  -- before it its next row has its places
+  pub row_room : t < run → run * (first.tasks.count + 2) ≤ length rows₀ → at + (first.tasks.count + 2) ≤ length rows
   row_room h room =
-      let one : (t + 1) * (first.tasks.count + 2) ≡ t * (first.tasks.count + 2) + 1 * (first.tasks.count + 2) = add-mul t 1 (first.tasks.count + 2) in
-      let most : (t + 1) * (first.tasks.count + 2) ≤ run * (first.tasks.count + 2) = mul-le-mul (omega arith) (le_refl (first.tasks.count + 2)) in
-      omega (arith, one, most, g.place, g.places)
+      let one : (t + 1) * (first.tasks.count + 2) ≤ run * (first.tasks.count + 2) = mul-le-mul (omega arith) (le_refl _) in
+      omega (arith, one, g.places)
 
   -- a tick of it, with its report and what came back in its row
-  module _ (h : t < run) (entries : List ℕ) (is : entries ≡ report_of ends first.tasks.count t) (r : Ticked) (told : r ≡ tick_of s entries (length entries)) (row : List ℕ) (back : row ≡ cond (eqb r.number 0) (row_of (tick_played s entries)) (take (at + first.tasks.count + 2 - at) (drop at rows))) where
+  module _ (h : t < run) (entries : List ℕ) (is : entries ≡ report_of ends first.tasks.count t) (r : Ticked) (told : r ≡ tick_of s entries (length entries)) (row : List ℕ) (back : row ≡ cond (eqb (tick_of s entries (length entries)).number 0) (row_of (tick_played s entries)) (take (at + (first.tasks.count + 2) - at) (drop at rows))) where
     reported : entries ≡ report_of ends s.tasks.count s.done.0
     reported =
         is
@@ -129,20 +127,17 @@ module _ (ends : List End) (when : List ℕ) (run : ℕ) (first : State) (rows�
     one_more = omega arith
 
     -- refused: the run ends in the state at hand, and its row is as it was
-    pub turn_refused : (r.number ≡ 0 → ⊥) → (record { outcome = Ended r.number; state = s } ≡ played_as (play_from ends run first)) × (put_mid at (at + first.tasks.count + 2 - at) rows row ≡ sets rows₀ 0 (rows_of (play_from ends run first).ticks))
-    unfolding played_as ended rows_of
+    pub turn_refused : (r.number ≡ 0 → ⊥) → (record { number = r.number; state = s } ≡ ending_of (play_from ends run first)) × (put_mid at (at + (first.tasks.count + 2) - at) rows row ≡ sets rows₀ 0 (rows_of (play_from ends run first).ticks))
+    unfolding ending_of ended rows_of
     turn_refused z =
         let stops : play_from ends (run - t) s ≡ ended r.number s = ap (λ k. play_from ends k s) one_more ∙ play_stops ends (run - (t + 1)) s r ticked z in
-        let kept : row ≡ take (at + first.tasks.count + 2 - at) (drop at rows) = back ∙ rw (ne_eqb r.number 0 z) in
-        (rw stops at g.to_come, rw kept (put_same at (at + first.tasks.count + 2 - at) rows) ∙ rw stops at g.rows_to_come)
-
-    pub refused_long : (r.number ≡ 0 → ⊥) → length (put_mid at (at + first.tasks.count + 2 - at) rows row) ≡ length rows₀
-    refused_long z = ap length (turn_refused z).1 ∙ length-sets rows₀ 0 (rows_of (play_from ends run first).ticks)
+        let kept : row ≡ take (at + (first.tasks.count + 2) - at) (drop at rows) = back ∙ rw (← told, ne_eqb r.number 0 z) in
+        (rw stops at g.to_come, rw kept (put_same at (at + (first.tasks.count + 2) - at) rows) ∙ rw stops at g.rows_to_come)
 
     -- accepted: its row is stored, and the rest is to come
     module _ (e : r.number ≡ 0) where
       row_is : row ≡ row_of (tick_played s entries)
-      row_is = back ∙ rw e
+      row_is = back ∙ rw (← told, e)
 
       goes_on : play_from ends (run - t) s ≡ before (tick_played s entries) (play_from ends (run - (t + 1)) r.state)
       goes_on =
@@ -153,27 +148,24 @@ module _ (ends : List End) (when : List ℕ) (run : ℕ) (first : State) (rows�
       row_long : length row ≡ first.tasks.count + 2
       row_long = ap length row_is ∙ row_places s entries ∙ ap (λ (ts : Tasks). ts.count + 2) g.table
 
-      stored : run * (first.tasks.count + 2) ≤ length rows₀ → put_mid at (at + first.tasks.count + 2 - at) rows row ≡ sets rows at (row_of (tick_played s entries))
+      stored : run * (first.tasks.count + 2) ≤ length rows₀ → put_mid at (at + (first.tasks.count + 2) - at) rows row ≡ sets rows at (row_of (tick_played s entries))
       stored room =
-          lent_part rows row at (at + first.tasks.count + 2) (omega arith) (row_room h room) (omega (arith, row_long))
+          lent_part rows row at (at + (first.tasks.count + 2)) (omega arith) (row_room h room) (omega (arith, row_long))
           ∙ ap (sets rows at) row_is
 
-      pub turn_accepted : run * (first.tasks.count + 2) ≤ length rows₀ → (who cycles : List ℕ) → Lines ends first.tasks.count when who cycles → (next' : ℕ) → next' ≡ past_tick when t next → Going ends when run first rows₀ r.state (put_mid at (at + first.tasks.count + 2 - at) rows row) (t + 1) next' (at + first.tasks.count + 2)
-      unfolding before played_as rows_of
+      pub turn_accepted : run * (first.tasks.count + 2) ≤ length rows₀ → (who cycles : List ℕ) → Lines ends first.tasks.count when who cycles → (next' : ℕ) → next' ≡ past_tick when t next → Going ends when run first rows₀ r.state (put_mid at (at + (first.tasks.count + 2) - at) rows row) (t + 1) next'
+      unfolding before ending_of rows_of
       turn_accepted room who cycles b next' past =
           let number : tick_number s entries (length entries) ≡ 0 = sym (number_is s entries (length entries)) ∙ sym (ap (λ (x : Ticked). x.number) told) ∙ e in
-          let one : (t + 1) * (first.tasks.count + 2) ≡ t * (first.tasks.count + 2) + 1 * (first.tasks.count + 2) = add-mul t 1 (first.tasks.count + 2) in
-          let long : at + first.tasks.count + 2 ≡ at + length (row_of (tick_played s entries)) = omega (arith, row_places s entries, ap (λ (ts : Tasks). ts.count) g.table) in
+          let long : (t + 1) * (first.tasks.count + 2) ≡ at + length (row_of (tick_played s entries)) = omega (arith, row_places s entries, ap (λ (ts : Tasks). ts.count) g.table) in
           record {
-            on = omega arith;
             done = ap (λ (x : Ticked). x.state.done.0) told ∙ done_after s entries (length entries) number ∙ ap (λ n. n + 1) g.done;
             table = ap (λ (x : Ticked). x.state.tasks) told ∙ table_after s entries (length entries) number ∙ g.table;
             cursor = rw past (stands_next when (λ i. get_or who i 0) b.rise t next g.cursor);
-            place = omega (arith, one, g.place);
             places = ap length (stored room) ∙ length-sets rows at (row_of (tick_played s entries)) ∙ g.places;
-            to_come = sym (ap played_as goes_on) ∙ g.to_come;
+            to_come = sym (ap ending_of goes_on) ∙ g.to_come;
             rows_to_come =
-                ap (λ (l : List ℕ). sets l (at + first.tasks.count + 2) (rows_of (play_from ends (run - (t + 1)) r.state).ticks)) (stored room)
+                ap (λ (l : List ℕ). sets l ((t + 1) * (first.tasks.count + 2)) (rows_of (play_from ends (run - (t + 1)) r.state).ticks)) (stored room)
                 ∙ ap (λ k. sets (sets rows at (row_of (tick_played s entries))) k (rows_of (play_from ends (run - (t + 1)) r.state).ticks)) long
                 ∙ sets_append (row_of (tick_played s entries)) (rows_of (play_from ends (run - (t + 1)) r.state).ticks) rows at
                 ∙ sym (ap (λ (p : Play). sets rows at (rows_of p.ticks)) goes_on)

@@ -13,8 +13,8 @@ use Rattle.units.specs.declared.Cycles.{Cycles}
 use Rattle.rules.specs.declared.Tasks.{Tasks}
 use Rattle.rules.specs.declared.Settling.{Settling}
 use Rattle.rules.specs.declared.State.{State}
-use Rattle.rules.specs.declared.Ticked.{Ticked}
-use Rattle.rules.specs.declared.Told.{Told}
+use Rattle.rules.specs.Answers.{Ticked}
+use Rattle.rules.specs.Answers.{Told}
 use Rattle.rules.specs.Words.{up_to, total, every}
 use Rattle.rules.specs.Limits.{most_tasks, most_speed}
 use Rattle.rules.specs.State.{Shaped}

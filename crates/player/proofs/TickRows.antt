@@ -13,8 +13,10 @@ use lib.ListN.{length, take, drop, set, replicate, length-replicate}
 use Rattle.units.specs.declared.Speed.{Speed}
 use Rattle.units.specs.Units.{cycles, per_tick}
 use Rattle.rules.specs.declared.State.{State}
-use Rattle.rules.specs.declared.Ticked.{Ticked}
+use Rattle.rules.specs.Answers.{Ticked}
+use Rattle.std.specs.Prelude.{sum}
 use Rattle.rules.specs.Words.{total}
+use Rattle.rules.proofs.Chains.{total-sum}
 use Rattle.rules.specs.State.{Shaped}
 use Rattle.rules.specs.Choice.{speed_of}
 use Rattle.rules.specs.Settlement.{settled}
@@ -61,10 +63,10 @@ module _ (s : State) (report row : List ℕ) (l : length row ≡ length report +
   numbered = ap (λ (x : Ticked). x.number) ticked_is ∙ number_is s report (length report)
 
   -- refused: the row is as it was
-  pub row_kept : (r.number ≡ 0 → ⊥) → put_mid 1 (length report + 1 - 1) row ys ≡ cond (eqb r.number 0) (row_of (tick_played s report)) row
+  pub row_kept : (r.number ≡ 0 → ⊥) → put_mid 1 (length report + 1 - 1) row ys ≡ cond (eqb (tick_of s report (length report)).number 0) (row_of (tick_played s report)) row
   row_kept z =
       let kept = grants_kept s report (take (length report + 1 - 1) (drop 1 row)) r.number z (ap (tick_number s report) lent_long ∙ sym numbered) in
-      rw (ne_eqb r.number 0 z, back, ← kept) (put_same 1 (length report + 1 - 1) row)
+      rw (← ticked_is, ne_eqb r.number 0 z, back, ← kept) (put_same 1 (length report + 1 - 1) row)
 
   -- accepted: what the parts of the row come to
   module _ (shape : Shaped s) (e : r.number ≡ 0) where
@@ -87,9 +89,10 @@ module _ (s : State) (report row : List ℕ) (l : length row ≡ length report +
       left_is : idle ≡ (settled s (speed_of s) report).left.0
       left_is = omega (arith, i, idle_is)
 
-      middle_sum : total (λ g. g) (take (length report + 1 - 1) (drop 1 (set (put_mid 1 (length report + 1 - 1) row ys) (length report + 1) idle))) + idle ≡ speed_of s
+      middle_sum : sum (take (length report + 1 - 1) (drop 1 (set (put_mid 1 (length report + 1 - 1) row ys) (length report + 1) idle))) + idle ≡ speed_of s
       middle_sum =
-          ap (λ (m : List ℕ). total (λ g. g) m + idle) (middle_is row ys (length report) idle l back_long ∙ back_is)
+          ap (λ (m : List ℕ). sum m + idle) (middle_is row ys (length report) idle l back_long ∙ back_is)
+          ∙ ap (λ x. x + idle) (total-sum (shares_of s report))
           ∙ ap (λ x. total (λ g. g) (shares_of s report) + x) left_is
           ∙ speed_shared s report (length report) shape is_0
 
@@ -98,16 +101,16 @@ module _ (s : State) (report row : List ℕ) (l : length row ≡ length report +
       row_long = filled_long row ys (length report) idle l back_long
 
       -- the sum of the grants fits, and the speed
-      pub sum_fits : total (λ g. g) (take (length report + 1 - 1) (drop 1 (set (put_mid 1 (length report + 1 - 1) row ys) (length report + 1) idle))) < 2 ^ 64
+      pub sum_fits : sum (take (length report + 1 - 1) (drop 1 (set (put_mid 1 (length report + 1 - 1) row ys) (length report + 1) idle))) < 2 ^ 64
       sum_fits = omega (arith, middle_sum, speed_most s report (length report) shape is_0)
 
-      pub speed_fits : (sum : ℕ) → sum ≡ total (λ g. g) (take (length report + 1 - 1) (drop 1 (set (put_mid 1 (length report + 1 - 1) row ys) (length report + 1) idle))) → Fits w64 (sum + idle)
-      speed_fits sum m = record { fits = omega (arith, m, middle_sum, speed_most s report (length report) shape is_0) }
+      pub speed_fits : (granted : ℕ) → granted ≡ sum (take (length report + 1 - 1) (drop 1 (set (put_mid 1 (length report + 1 - 1) row ys) (length report + 1) idle))) → Fits w64 (granted + idle)
+      speed_fits granted m = record { fits = omega (arith, m, middle_sum, speed_most s report (length report) shape is_0) }
 
       -- and the row is that of the tick as it is played
-      pub row_is : (sum : ℕ) → sum ≡ total (λ g. g) (take (length report + 1 - 1) (drop 1 (set (put_mid 1 (length report + 1 - 1) row ys) (length report + 1) idle))) → (v : Speed) → v ≡ per_tick (cycles (sum + idle)) → set (set (put_mid 1 (length report + 1 - 1) row ys) (length report + 1) idle) 0 v.0 ≡ cond (eqb r.number 0) (row_of (tick_played s report)) row
-      row_is sum m v q =
+      pub row_is : (granted : ℕ) → granted ≡ sum (take (length report + 1 - 1) (drop 1 (set (put_mid 1 (length report + 1 - 1) row ys) (length report + 1) idle))) → (v : Speed) → v ≡ per_tick (cycles (granted + idle)) → set (set (put_mid 1 (length report + 1 - 1) row ys) (length report + 1) idle) 0 v.0 ≡ cond (eqb (tick_of s report (length report)).number 0) (row_of (tick_played s report)) row
+      row_is granted m v q =
           let speed : v.0 ≡ speed_of s = ap (λ (x : Speed). x.0) q ∙ ap (λ x. x + idle) m ∙ middle_sum in
-          rw e
+          rw (← ticked_is, e)
           (row_full row ys (length report) idle l back_long v.0
           ∙ rw (speed, back_is, left_is) (sym (played_row s report shape is_0)))

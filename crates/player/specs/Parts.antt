@@ -1,21 +1,27 @@
 -- What the parts of the player do, for their contracts.
-use Rattle.std.specs.Prelude.{ℕ, zero, suc, ◌+◌, ◌-◌, ◌*◌, ◌≤◌, ◌<◌, ◌≡◌, cond, List, [], ◌∷◌, eqb, length, get_or, set, drop}
+use Rattle.std.specs.Prelude.{ℕ, zero, suc, ◌+◌, ◌-◌, ◌*◌, ◌≤◌, ◌≡◌, cond, List, [], ◌∷◌, eqb, get_or, set, drop, map, Some}
+use Rattle.refusals.specs.declared.Refusal.{Refusal}
 use Rattle.rules.specs.declared.State.{State}
 use Rattle.rules.specs.Limits.{most_tasks}
 use Rattle.rules.specs.Calls.{zero_state}
-use Rattle.runfile.specs.declared.Ends.{Ends}
+use Rattle.runfile.specs.declared.End.{End as RunEnd}
 use Rattle.runfile.specs.Good.{GoodEnds}
-use Rattle.player.specs.declared.Outcome.{Outcome}
-use Rattle.player.specs.declared.Outcome.TheVariants.{Ended}
 use Rattle.player.specs.declared.Played.{Played}
-use Rattle.player.specs.Plays.{Play}
 
--- nothing played, and a run played
-unfoldable pub unplayed_as : Outcome → Played
-unplayed_as outcome = record { outcome = outcome; state = zero_state }
+-- nothing played
+unfoldable pub unplayed_as : Refusal → Played
+unplayed_as refusal = record { refusal = Some refusal; state = zero_state }
 
-unfoldable pub played_as : Play → Played
-played_as p = record { outcome = Ended p.number; state = p.state }
+-- the ticks that the end lines name
+unfoldable pub ticks_in : List RunEnd → List ℕ
+ticks_in es = map (λ (e : RunEnd). e.tick.0) es
+
+-- their tasks and their cycles
+unfoldable pub tasks_in : List RunEnd → List ℕ
+tasks_in es = map (λ (e : RunEnd). e.task) es
+
+unfoldable pub cycles_in : List RunEnd → List ℕ
+cycles_in es = map (λ (e : RunEnd). e.cycles.0) es
 
 -- how many numbers in front of a list are t; the place of the first end line, from a place on, that is not of tick t
 unfoldable pub in_front : ℕ → List ℕ → ℕ
@@ -33,16 +39,9 @@ entered_for (suc k) who cycles from report = entered_for k who cycles (suc from)
 unfoldable pub entered : List ℕ → List ℕ → List ℕ → ℕ → ℕ → List ℕ → List ℕ
 entered when who cycles t from report = entered_for (in_front t (drop from when)) who cycles from report
 
--- three lists of one length, whose end lines name tasks from 1 to n
-unfoldable pub Named : List ℕ → List ℕ → List ℕ → ℕ → Type 0
-Named when who cycles n =
-    (length who ≡ length when)
-    × (length cycles ≡ length when)
-    × ((k : ℕ) → k < length when → (1 ≤ get_or who k 0) × (get_or who k 0 ≤ n))
-
 -- what a run asks for before its first tick: a state at tick 0, end lines that are good for its tasks, and a row for each tick
-pub record Runnable (s : State) (e : Ends) (run places : ℕ) : Type 0 where
+pub record Runnable (s : State) (es : List RunEnd) (run places : ℕ) : Type 0 where
   pub fresh : s.done.0 ≡ 0
   pub few : s.tasks.count ≤ most_tasks
-  pub ends : GoodEnds s.tasks.count e
+  pub ends : GoodEnds s.tasks.count es
   pub room : run * (s.tasks.count + 2) ≤ places

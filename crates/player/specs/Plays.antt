@@ -1,13 +1,14 @@
 -- A run file played: its ticks, and how the run ended. Everything that is shown of a run is a rendering of this.
-use Rattle.std.specs.Prelude.{ℕ, zero, suc, cond, ◌&&◌, List, [], ◌∷◌, eqb, get_or, take, replicate}
+use Rattle.std.specs.Prelude.{ℕ, zero, suc, cond, ◌&&◌, List, [], ◌∷◌, eqb, map, replicate, Result, Ok, Err}
 use Rattle.rules.specs.declared.State.{State}
-use Rattle.rules.specs.declared.Started.{Started}
+use Rattle.rules.specs.Answers.{Started}
 use Rattle.rules.specs.Words.{up_to}
 use Rattle.rules.specs.Choice.{speed_of}
 use Rattle.rules.specs.Settlement.{settled}
 use Rattle.rules.specs.Calls.{start_of, now_of, tick_of, grants_of, zero_state}
-use Rattle.runfile.specs.declared.Ends.{Ends}
+use Rattle.runfile.specs.declared.End.{End as RunEnd}
 use Rattle.runfile.specs.declared.RunFile.{RunFile}
+use Rattle.refusals.specs.declared.Refusal.{Refusal}
 use Rattle.runfile.specs.RunFile.{run_file_of}
 
 -- a tick of a run: its speed, the grants of tasks 1 to n, and the idle cycles
@@ -29,12 +30,11 @@ pub record End : Type 0 where
   pub cycles : ℕ
 
 -- the end lines of a run file as a list
-unfoldable pub ends_of : Ends → List End
-ends_of e =
-    up_to e.count (λ k. record { tick = get_or e.ticks k 0; task = get_or e.tasks k 0; cycles = get_or e.cycles k 0 })
+unfoldable pub ends_of : List RunEnd → List End
+ends_of es = map (λ (e : RunEnd). record { tick = e.tick.0; task = e.task; cycles = e.cycles.0 }) es
 
 unfoldable pub ends_in : RunFile → List End
-ends_in f = ends_of f.ends
+ends_in f = ends_of f.ends.items
 
 -- the entry of a task in a tick's report: the cycles of the end line that names both; 0, no finish, where none does
 unfoldable pub entry_of : List End → ℕ → ℕ → ℕ
@@ -74,8 +74,8 @@ play_from ends (suc left) s =
 -- start's answer to the table of a run file: its task lines and its speed lines
 abbrev pub start_in : RunFile → Started
 start_in f =
-    start_of (take f.tasks.count f.tasks.firsts) (take f.tasks.count f.tasks.seconds)
-    (take f.speeds.count f.speeds.firsts) (take f.speeds.count f.speeds.seconds)
+    start_of f.tasks.firsts.items f.tasks.seconds.items
+    f.speeds.firsts.items f.speeds.seconds.items
 
 -- a run file: start, and then its ticks; a refused start ends the run
 unfoldable pub play_file : RunFile → Play
@@ -86,7 +86,9 @@ play_file f =
     (ended r.number r.state)
 
 -- any text: a text that is no run file ends with 14 before a tick
+unfoldable pub play_read : Result RunFile Refusal → Play
+play_read (Ok f) = play_file f
+play_read (Err r) = ended 14 zero_state
+
 unfoldable pub play_of : List ℕ → Play
-play_of text =
-    let f = run_file_of text in
-    cond (eqb f.number 0) (play_file f) (ended 14 zero_state)
+play_of text = play_read (run_file_of text)

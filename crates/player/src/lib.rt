@@ -4,53 +4,50 @@
 mod ticks;
 
 ghost use Rattle.std.specs.Prelude.{◌≡◌, length};
-ghost use Rattle.player.specs.Rows.{played_of, rows_in};
+ghost use Rattle.player.specs.Rows.{played_by, played_of, rows_in};
+ghost use Rattle.player.specs.Parts.{unplayed_as};
 
+use refusals::Refusal;
 use rules::State;
 
-// How a run ended: with number 0, or with the number of the refusal; or it was not played, since there is no room for its rows.
-#[derive(Drop)]
-pub enum Outcome {
-    Ended(u64),
-    NoRoom,
-}
-
-// A run played: how it ended, and the final state or the state that the refusal was met in; the all-zero state where nothing was played.
+// A run played: its refusal, if it was refused; and the final state or the state that the refusal was met in, the all-zero state where nothing was played.
 #[derive(Drop)]
 pub struct Played {
-    pub outcome: Outcome,
+    pub refusal: Option<Refusal>,
     pub state: State,
 }
 
-// Plays a text as a run file into a lent list of rows: for each tick its speed, the grants of tasks 1 to n and the idle cycles.
-pub fn play(text: &[u8], rows: &mut [u64]) -> Played
-    ensures { (result ≡ played_of text.now (length rows.old))
+// Plays a text as a run file into a lent list of rows: for each tick its speed, the grants of tasks 1 to n and the idle cycles. None: there is no room for its rows, and nothing was played.
+pub fn play(text: &[u8], rows: &mut [u64]) -> Option<Played>
+    ensures { (played_by result ≡ played_of text.now (length rows.old))
         × (rows.new ≡ rows_in text.now rows.old) }
 {
-    let file = runfile::read(text);
-    if file.number != 0 {
-        return ticks::unplayed(Outcome::Ended(14));
-    }
-    let tasks = file.tasks;
-    let speeds = file.speeds;
-    let n = tasks.count;
-    let m = speeds.count;
-    let periods = tasks.firsts;
-    let reserves = tasks.seconds;
-    let ratings = speeds.firsts;
-    let volts = speeds.seconds;
+    let file = match runfile::read(text) {
+        Ok(file) => file,
+        Err(refusal) => return Some(unplayed(refusal)),
+    };
     let started = governor::start(
-        &periods[0..n],
-        &reserves[0..n],
-        &ratings[0..m],
-        &volts[0..m],
+        file.tasks.firsts.as_slice(),
+        file.tasks.seconds.as_slice(),
+        file.speeds.firsts.as_slice(),
+        file.speeds.seconds.as_slice(),
     );
-    if started.number != 0 {
-        return ticks::unplayed(Outcome::Ended(started.number));
+    let state = match started {
+        Ok(state) => state,
+        Err(refusal) => return Some(unplayed(refusal)),
+    };
+    if rows.len() < file.ticks.0 as usize * (file.tasks.firsts.len() + 2) {
+        return None;
     }
-    let run = file.ticks;
-    if rows.len() < run.0 as usize * (n + 2) {
-        return ticks::unplayed(Outcome::NoRoom);
+    Some(ticks::play_run(state, file.ends.as_slice(), file.ticks, rows))
+}
+
+// Nothing played: why, and the all-zero state.
+fn unplayed(refusal: Refusal) -> Played
+    ensures { result ≡ unplayed_as refusal }
+{
+    Played {
+        refusal: Some(refusal),
+        state: State::default(),
     }
-    ticks::play_run(started.state, file.ends, run, rows)
 }

@@ -7,7 +7,7 @@ use native.Mathlib.Omega.{arith}
 use lib.ListN.{length, get_or, set, drop, length-append, length-set, drop_of_length-le}
 use lib.Seq.{drop-cons, sets}
 use Rattle.words.specs.Words.{put_in, place_after}
-use Rattle.words.proofs.Stores.{sets_append, put_fits}
+use Rattle.words.proofs.Stores.{sets_append, put_fits, length_put}
 use Rattle.decimal.specs.Decimal.{decimal_of}
 use Rattle.decimal.proofs.Written.{few_digits, one_digit}
 use Rattle.printout.specs.Print.{cr_lf, field_of, fields_of, line_of}
@@ -22,6 +22,9 @@ module _ (v : ℕ) where
   pub small_field : v < 10 → field_of v ≡ 44 ∷ (48 + v) ∷ []
   unfolding field_of decimal_of
   small_field h = ap (λ (l : List ℕ). 44 ∷ l) (one_digit 19 v h)
+
+  pub small_length : v < 10 → length (field_of v) ≡ 2
+  small_length h = ap length (small_field h)
 
   module _ (d : List ℕ) (at : ℕ) where
     -- a comma stored, and then one digit
@@ -72,3 +75,8 @@ module _ (first others : List ℕ) where
   put_line d at =
       sets_append (fields_of others) cr_lf (sets d at first) (at + length first)
       ∙ sets_append first (fields_of others ++ cr_lf) d at
+
+-- what one field comes to, and what a list of them does
+pub ruleset one_field = (length-set, field_length, small_length, store_small, put_digits, length_put)
+
+pub ruleset all_fields = (few_digits, field_length, first_length, no_field, fields_few, put_first)

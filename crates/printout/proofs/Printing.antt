@@ -1,5 +1,5 @@
 -- What print asks of a play: its rows in a list of 180,000 places, which are always enough, can be rendered, and so they are the printout of the text. From the laws about plays and that no printout is longer than 1,500,200 bytes.
-use mathlib.Core.Path.{◌≡◌, sym, ap, ◌∙◌}
+use mathlib.Core.Path.{◌≡◌, ap, ◌∙◌}
 use mathlib.Core.Bool.{true}
 use mathlib.Core.List.{List, ◌++◌}
 use Prim.Native.Nat.{ℕ, ◌+◌, ◌≤◌}
@@ -8,16 +8,15 @@ use native.Mathlib.Omega.{arith}
 use lib.ListN.{length, drop}
 use lib.Seq.{sets-eq, length-sets}
 use Rattle.runfile.specs.RunFile.{run_file_of}
-use Rattle.player.specs.declared.Outcome.TheVariants.{Ended, NoRoom}
+use Rattle.std.specs.Prelude.{Option, Some, None}
 use Rattle.player.specs.declared.Played.{Played}
 use Rattle.player.specs.Plays.{Play, play_of}
-use Rattle.player.specs.Rows.{rows_of, enough, played_of, rows_in}
+use Rattle.player.specs.Rows.{Ending, rows_of, enough, ending_of, played_of, rows_in, number_in, ending_by, played_by}
 use Rattle.played.specs.Promised.{most_places}
 use Rattle.played.proofs.TextLaws.{text_right, text_enough}
 use Rattle.printout.specs.Print.{print_of}
 use Rattle.printout.specs.Largest.{NeverLonger}
 use Rattle.printout.specs.Parts.{Summed, rendered, Renderable}
-use Rattle.printout.proofs.LastLine.{last_count}
 use Rattle.printout.proofs.TickLines.{rendered_is}
 use Rattle.printout.proofs.Largest.{never_longer}
 
@@ -63,27 +62,26 @@ module _ (text table : List ℕ) (places : length table ≡ most_places) where
           there = rw (long_as_before, r.done, ← r.rows_long) rows_fit;
           narrow = omega (arith, r.tasks_most);
           few = omega (arith, r.done, r.ticks_most);
-          numbers = last_count play.number play.state;
           short = rw text_is (never_longer text);
         };
       }
 
   -- what play answers for such a list
-  played_is : played_of text (length table) ≡ record { outcome = Ended play.number; state = play.state }
+  played_is : played_of text (length table) ≡ Some (ending_of play)
   unfolding played_of
   played_is = rw has_room
 
-  module _ (played : Played) (e : played ≡ played_of text (length table)) where
-    -- so there was room
-    pub room_there : played.outcome ≡ NoRoom → ⊥
-    room_there h =
-        let told : Ended play.number ≡ NoRoom = sym (ap (λ (p : Played). p.outcome) (e ∙ played_is)) ∙ h in
-        let z : ◌≡◌ {A = ℕ} 0 1 = cc in
-        omega arith
+  -- there was room for it
+  pub room_there : played_by None ≡ played_of text (length table) → ⊥
+  unfolding played_by
+  room_there e = let none : ◌≡◌ {A = Option Ending} None (Some (ending_of play)) = e ∙ played_is in cc
 
-    -- and what it answered, with what it left in the list, can be rendered, and that is the printout
-    pub ready : (number : ℕ) → played.outcome ≡ Ended number → (rows : List ℕ) → rows ≡ rows_in text table → Renderable number played.state rows × (rendered number played.state rows ≡ print_of text)
-    ready number h rows f =
-        let told : Ended number ≡ Ended play.number = sym h ∙ ap (λ (p : Played). p.outcome) (e ∙ played_is) in
-        let same : number ≡ play.number = cc in
-        rw (f, e, played_is, same) (can_render, text_is)
+  -- and what it answered, with what it left in the list, can be rendered, and that is the printout
+  pub ready : (p : Played) → played_by (Some p) ≡ played_of text (length table) → (rows : List ℕ) → rows ≡ rows_in text table → Renderable (number_in p.refusal) p.state rows × (rendered (number_in p.refusal) p.state rows ≡ print_of text)
+  unfolding played_by ending_by ending_of
+  ready p e rows f =
+      let told : ◌≡◌ {A = Option Ending} (Some (ending_by p)) (Some (ending_of play)) = e ∙ played_is in
+      let same : ending_by p ≡ ending_of play = cc in
+      let number : number_in p.refusal ≡ play.number = ap (λ (x : Ending). x.number) same in
+      let state : p.state ≡ play.state = ap (λ (x : Ending). x.state) same in
+      rw (f, number, state) (can_render, text_is)

@@ -12,7 +12,7 @@ use Rattle.player.specs.Plays.{Tick, Play}
 use Rattle.player.specs.Rows.{row_of, rows_of}
 use Rattle.played.specs.Promised.{TickRight, EachTick}
 use Rattle.printout.specs.Print.{line_of, tick_lines, totals_of, last_line, text_of}
-use Rattle.printout.specs.Parts.{row_lines, word_of, last_text, last_of, lines_of, rendered}
+use Rattle.printout.specs.Parts.{row_lines, word_of, numbers_of, last_text, last_of, lines_of, rendered}
 
 -- a row has a number for each grant and two more
 pub row_long : (x : Tick) → length (row_of x) ≡ length x.grants + 2
@@ -30,7 +30,7 @@ rows_are_ticks n t (x ∷ xs) rest h =
 
 -- the last line by its numbers is the last line of the run
 pub last_is : (p : Play) → last_text (last_of p.number p.state) ≡ last_line p
-unfolding last_text last_of last_line word_of totals_of
+unfolding last_text last_of last_line word_of numbers_of totals_of
 last_is p = go (eqb p.number 0) refl
   where
     go : (t : Bool) → eqb p.number 0 ≡ t → last_text (last_of p.number p.state) ≡ last_line p

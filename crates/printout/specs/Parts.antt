@@ -1,10 +1,11 @@
 -- What the parts of the printout do, for their contracts.
-use Rattle.std.specs.Prelude.{ℕ, zero, suc, ◌+◌, ◌*◌, ◌≤◌, ◌≡◌, Bool, true, false, cond, List, [], ◌∷◌, ◌++◌, eqb, length, take, drop}
+use Rattle.std.specs.Prelude.{ℕ, zero, suc, ◌+◌, ◌*◌, ◌≤◌, ◌≡◌, true, cond, List, [], ◌∷◌, ◌++◌, eqb, length, take, drop}
 use Rattle.rules.specs.declared.State.{State}
 use Rattle.rules.specs.Numbers.{sound}
 use Rattle.decimal.specs.Decimal.{decimal_of}
 use Rattle.runfile.specs.RunFile.{most_run_ticks}
 use Rattle.printout.specs.declared.lasts.Last.{Last}
+use Rattle.printout.specs.declared.lasts.Last.TheVariants.{Total, Refused}
 use Rattle.printout.specs.Print.{line_of, total_word, refused_word, totals_of}
 use Rattle.printout.specs.Largest.{most_printed}
 
@@ -13,19 +14,21 @@ unfoldable pub row_lines : ℕ → ℕ → ℕ → List ℕ → List ℕ
 row_lines width zero t rows = []
 row_lines width (suc ticks) t rows = line_of (decimal_of t) (take width rows) ++ row_lines width ticks (suc t) (drop width rows)
 
--- the last line, by whether the run was refused and the numbers in the first places
-unfoldable pub word_of : Bool → List ℕ
-word_of refused = cond refused refused_word total_word
+-- the last line, by its word and its numbers
+unfoldable pub word_of : Last → List ℕ
+word_of (Total numbers) = total_word
+word_of (Refused number) = refused_word
+
+unfoldable pub numbers_of : Last → List ℕ
+numbers_of (Total numbers) = numbers
+numbers_of (Refused number) = number ∷ []
 
 unfoldable pub last_text : Last → List ℕ
-last_text l = line_of (word_of l.refused) (take l.count l.values)
+last_text l = line_of (word_of l) (numbers_of l)
 
--- the numbers of the last line of a run that ended so
+-- what the last line of a run that ended so says
 unfoldable pub last_of : ℕ → State → Last
-last_of number s =
-    cond (eqb number 0)
-    (record { refused = false; count = 5; values = totals_of s })
-    (record { refused = true; count = 1; values = number ∷ 0 ∷ 0 ∷ 0 ∷ 0 ∷ [] })
+last_of number s = cond (eqb number 0) (Total (totals_of s)) (Refused number)
 
 -- the counts of a run that was not refused can be summed: its state is sound
 unfoldable pub Summed : ℕ → State → Type 0
@@ -40,7 +43,6 @@ pub record Writable (width ticks : ℕ) (last : Last) (rows : List ℕ) : Type 0
   pub there : ticks * width ≤ length rows
   pub narrow : width ≤ 18
   pub few : ticks ≤ most_run_ticks
-  pub numbers : last.count ≤ 5
   pub short : length (lines_of width ticks last rows) ≤ most_printed
 
 -- a run that ended so, as text, and when it can be written

@@ -1,5 +1,5 @@
 -- "The bench prints": a run as text, every byte, and what is printed for any bytes at all.
-use Rattle.std.specs.Prelude.{ℕ, suc, cond, List, [], ◌∷◌, ◌++◌, eqb, leb, length}
+use Rattle.std.specs.Prelude.{ℕ, suc, cond, List, [], ◌∷◌, ◌++◌, eqb, leb, length, Option, Some, None}
 use Rattle.units.specs.declared.Cycles.{Cycles}
 use Rattle.rules.specs.declared.State.{State}
 use Rattle.rules.specs.Words.{total}
@@ -7,8 +7,6 @@ use Rattle.rules.specs.Calls.{energy_of}
 use Rattle.decimal.specs.Decimal.{decimal_of}
 use Rattle.player.specs.Plays.{Tick, Play, play_of}
 use Rattle.player.specs.Rows.{row_of}
-use Rattle.printout.specs.declared.Printed.{Printed}
-use Rattle.printout.specs.declared.Printed.TheVariants.{Bytes, NoRoom}
 
 -- `total`, `refused`, and CR LF, which ends every line
 unfoldable pub total_word : List ℕ
@@ -63,5 +61,5 @@ unfoldable pub print_of : List ℕ → List ℕ
 print_of text = text_of (play_of text)
 
 -- what print answers for bytes to be printed and a buffer of so many places: how many bytes, or that there is no room for them
-unfoldable pub printed_of : List ℕ → ℕ → Printed
-printed_of bytes places = cond (leb (length bytes) places) (Bytes (length bytes)) NoRoom
+unfoldable pub printed_of : List ℕ → ℕ → Option ℕ
+printed_of bytes places = cond (leb (length bytes) places) (Some (length bytes)) None

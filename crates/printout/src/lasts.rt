@@ -1,95 +1,86 @@
 // The last line: the total of a run, or its refusal.
-ghost use Rattle.std.specs.Prelude.{◌≡◌, ◌+◌, ◌≤◌, ◌<◌, ◌^◌, length};
+ghost use Rattle.std.specs.Prelude.{◌≡◌, ◌+◌, ◌≤◌, ◌<◌, ◌^◌, length, sum_by};
 ghost use Rattle.std.proofs.lemmas.List.Edits.{sets};
 ghost use Rattle.units.specs.declared.Cycles.{Cycles};
-ghost use Rattle.rules.specs.Words.{total};
-ghost use Rattle.printout.specs.Parts.{last_text, word_of, Summed, last_of};
+ghost use Rattle.player.specs.Rows.{number_in};
+ghost use Rattle.printout.specs.Parts.{last_text, word_of, numbers_of, Summed, last_of};
 
+use crate::rows::{fields_length, put_fields};
+use refusals::Refusal;
 use rules::{State, Tally};
 use units::Cycles;
 
-// Whether the run was refused, and the numbers of its last line: so many, in the first places.
+// What the last line says: the total of a run, in five numbers, or its refusal, by its number.
 #[derive(Clone, Copy)]
-pub(crate) struct Last {
-    pub(crate) refused: bool,
-    pub(crate) count: usize,
-    pub(crate) values: [u64; 5],
+pub(crate) enum Last {
+    Total([u64; 5]),
+    Refused(u64),
+}
+
+impl Last {
+    // The word that the last line begins with.
+    #[tactic(auto, unfolding(crate::specs::Parts::word_of, crate::specs::Print::total_word, crate::specs::Print::refused_word))]
+    pub(crate) fn word(&self) -> &'static [u8]
+        ensures { result.now ≡ word_of self.now }
+    {
+        match self {
+            Last::Total(_) => b"total",
+            Last::Refused(_) => b"refused",
+        }
+    }
+
+    // The numbers that stand behind it.
+    #[tactic(auto, unfolding(crate::specs::Parts::numbers_of))]
+    pub(crate) fn numbers(&self) -> &[u64]
+        ensures value { result.now ≡ numbers_of self.now }
+        ensures few { length result.now ≤ 5 }
+    {
+        match self {
+            Last::Total(numbers) => numbers,
+            Last::Refused(number) => std::slice::from_ref(number),
+        }
+    }
 }
 
 // The last line of a run that ended so: total, cycles granted, idle, energy, late, cut; or refused and the number.
-pub(crate) fn last_of(number: u64, state: State) -> Last
-    requires { Summed number state }
-    ensures { result ≡ last_of number state }
+#[tactic(auto, unfolding(crate::specs::Parts::last_of, crate::specs::Parts::Summed, crate::specs::Print::totals_of), using(crate::proofs::LastLine::last_numbers))]
+pub(crate) fn last_of(refusal: Option<Refusal>, state: State) -> Last
+    requires { Summed (number_in refusal) state }
+    ensures { result ≡ last_of (number_in refusal) state }
 {
-    if number != 0 {
-        return Last {
-            refused: true,
-            count: 1,
-            values: [number, 0, 0, 0, 0],
-        };
+    if let Some(refusal) = refusal {
+        return Last::Refused(u64::from(refusal));
     }
-    let used = governor::energy(state);
     let tally = state.tally;
-    let sum = granted(tally);
-    let idle = tally.idle;
-    Last {
-        refused: false,
-        count: 5,
-        values: [sum.0, idle.0, used.energy, tally.late, tally.cut],
-    }
+    let cycles = granted(tally);
+    let energy = governor::energy(state).unwrap_or(0);
+    Last::Total([cycles.0, tally.idle.0, energy, tally.late, tally.cut])
 }
 
 // The cycles granted at all speeds.
 pub(crate) fn granted(tally: Tally) -> Cycles
-    requires { total (λ (c : Cycles). c.0) tally.counts < 2 ^ 64 }
-    ensures { result.0 ≡ total (λ (c : Cycles). c.0) tally.counts }
+    requires { sum_by (λ (c : Cycles). c.0) tally.counts < 2 ^ 64 }
+    ensures { result.0 ≡ sum_by (λ (c : Cycles). c.0) tally.counts }
 {
-    let counts = tally.counts;
-    let mut sum: u64 = 0;
-    let mut i = 0;
-    while i < 8 {
-        let count = counts[i];
-        sum += count.0;
-        i += 1;
-    }
-    Cycles(sum)
+    Cycles(tally.counts.iter().map(|count| count.0).sum())
 }
 
 // How many bytes the last line takes.
-pub(crate) fn last_length(last: Last) -> usize
-    requires { last.count ≤ 5 }
-    ensures { result ≡ length (last_text last) }
+#[tactic(auto, using(crate::proofs::LastLine::last_bytes))]
+pub(crate) fn last_length(last: &Last) -> usize
+    ensures { result ≡ length (last_text last.now) }
 {
-    let values = last.values;
-    let n = last.count;
-    let fields = crate::rows::fields_length(&values[0..n]);
-    if last.refused {
-        return fields + 9;
-    }
-    fields + 7
+    last.word().len() + fields_length(last.numbers()) + 2
 }
 
 // Puts the last line from a place on, and tells the place after it.
-pub(crate) fn put_last(out: &mut [u8], at: usize, last: Last) -> usize
-    requires { (last.count ≤ 5) × (at + length (last_text last) ≤ length out.old) }
-    ensures value { result ≡ at + length (last_text last) }
-    ensures out_after { out.new ≡ sets out.old at (last_text last) }
+#[tactic(auto, unfolding(crate::specs::Print::cr_lf), using(crate::proofs::LastLine::last_bytes))]
+pub(crate) fn put_last(out: &mut [u8], at: usize, last: &Last) -> usize
+    requires { at + length (last_text last.now) ≤ length out.old }
+    ensures value { result ≡ at + length (last_text last.now) }
+    ensures out_after { out.new ≡ sets out.old at (last_text last.now) }
 {
-    let values = last.values;
-    let n = last.count;
-    let mut place = put_word(out, at, last.refused);
-    place = crate::rows::put_fields(out, place, &values[0..n]);
+    let mut place = words::put(out, at, last.word());
+    place = put_fields(out, place, last.numbers());
     words::put(out, place, b"\r\n")
-}
-
-// Puts the last line's word from a place on, and tells the place after it.
-pub(crate) fn put_word(out: &mut [u8], at: usize, refused: bool) -> usize
-    requires { at + length (word_of refused) ≤ length out.old }
-    ensures value { result ≡ at + length (word_of refused) }
-    ensures out_after { out.new ≡ sets out.old at (word_of refused) }
-{
-    if refused {
-        return words::put(out, at, b"refused");
-    }
-    words::put(out, at, b"total")
 }

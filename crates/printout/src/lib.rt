@@ -9,26 +9,12 @@ ghost use Rattle.std.specs.Prelude.{◌≡◌, length};
 ghost use Rattle.words.specs.Words.{put_in};
 ghost use Rattle.printout.specs.Print.{print_of, printed_of};
 
-use player::Outcome;
-
-// How many bytes were printed, or that the buffer has no room for them.
-#[derive(Drop)]
-pub enum Printed {
-    Bytes(usize),
-    NoRoom,
-}
-
-// Plays a text as a run file and prints the run into a buffer, from its first place on: all of it, or nothing where there is no room. 180,000 places hold the rows of the longest run: 10,000 ticks of 16 tasks.
-pub fn print(text: &[u8], out: &mut [u8]) -> Printed
+// Plays a text as a run file and prints the run into a buffer, from its first place on, and tells how many bytes it has: all of it, or nothing where there is no room. 180,000 places hold the rows of the longest run: 10,000 ticks of 16 tasks.
+pub fn print(text: &[u8], out: &mut [u8]) -> Option<usize>
     ensures value { result ≡ printed_of (print_of text.now) (length out.old) }
     ensures out_after { out.new ≡ put_in out.old 0 (print_of text.now) }
 {
-    let mut table = [0u64; 180000];
-    let played = player::play(text, &mut table);
-    let outcome = played.outcome;
-    let Outcome::Ended(number) = outcome else {
-        return Printed::NoRoom;
-    };
-    let state = played.state;
-    whole::render(number, state, &table, out)
+    let mut table = [0; 180000];
+    let played = player::play(text, &mut table)?;
+    whole::render(played.refusal, played.state, &table, out)
 }

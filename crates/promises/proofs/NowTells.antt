@@ -9,7 +9,7 @@ use native.Mathlib.Omega.{arith}
 use lib.Dec.{ltb}
 use borrow.Author.Tests.{ltb-true, not-false}
 use Rattle.rules.specs.declared.State.{State}
-use Rattle.rules.specs.declared.Told.{Told}
+use Rattle.rules.specs.Answers.{Told}
 use Rattle.rules.specs.Words.{every}
 use Rattle.rules.specs.State.{speed_at}
 use Rattle.rules.specs.Choice.{deadline_at, ready_at, order_of, chosen, choice_of, task_of, due_of, speed_place, speed_of}

@@ -8,8 +8,8 @@ use borrow.Author.Tests.{eqb-true, eqb-false}
 use Rattle.units.specs.Units.{cycles}
 use Rattle.rules.specs.declared.State.{State}
 use Rattle.rules.specs.declared.Settling.{Settling}
-use Rattle.rules.specs.declared.Ticked.{Ticked}
-use Rattle.rules.specs.declared.Told.{Told}
+use Rattle.rules.specs.Answers.{Ticked}
+use Rattle.rules.specs.Answers.{Told}
 use Rattle.rules.specs.Words.{up_to}
 use Rattle.rules.specs.Choice.{speed_place, speed_of}
 use Rattle.rules.specs.Settlement.{settled}

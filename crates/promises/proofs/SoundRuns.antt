@@ -11,7 +11,7 @@ use lib.ListN.{length, get_or}
 use borrow.Author.Tests.{eqb-true, eqb-false, leb-true}
 use Rattle.rules.specs.declared.Tasks.{Tasks}
 use Rattle.rules.specs.declared.State.{State}
-use Rattle.rules.specs.declared.Used.{Used}
+use Rattle.rules.specs.Answers.{Used}
 use Rattle.rules.specs.Words.{first_of}
 use Rattle.rules.specs.State.{Shaped}
 use Rattle.rules.specs.Limits.{most_ticks}

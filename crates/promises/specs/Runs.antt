@@ -1,8 +1,8 @@
 -- A run: a table that start accepts, and any calls of tick from there on. An accepted tick goes on; a refused one leaves everything as it is.
 use Rattle.std.specs.Prelude.{ℕ, cond, List, [], ◌∷◌, map, eqb, length, get_or}
 use Rattle.rules.specs.declared.State.{State}
-use Rattle.rules.specs.declared.Started.{Started}
-use Rattle.rules.specs.declared.Ticked.{Ticked}
+use Rattle.rules.specs.Answers.{Started}
+use Rattle.rules.specs.Answers.{Ticked}
 use Rattle.rules.specs.Words.{total}
 pub use Rattle.rules.specs.Words.{sum_to}
 use Rattle.rules.specs.Calls.{start_of, now_of, tick_of, grants_of}

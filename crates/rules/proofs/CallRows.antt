@@ -10,7 +10,7 @@ use borrow.Author.Tests.{eqb-true, eq-eqb, ne_eqb, le-leb, lt-leb, leb-false, no
 use Rattle.units.specs.Units.{cycles, speed}
 use Rattle.rules.specs.declared.State.{State}
 use Rattle.rules.specs.declared.Choice.TheVariants.{Nothing}
-use Rattle.rules.specs.declared.Started.{Started}
+use Rattle.rules.specs.Answers.{Started}
 use Rattle.rules.specs.Words.{up_to, first_of}
 use Rattle.rules.specs.Limits.{most_ticks}
 use Rattle.rules.specs.Choice.{choice_of, speed_place, speed_of, none_carries}

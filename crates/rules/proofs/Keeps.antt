@@ -13,7 +13,7 @@ use Rattle.units.specs.Units.{cycles}
 use Rattle.units.specs.declared.Cycles.{Cycles}
 use Rattle.rules.specs.declared.Job.{Job}
 use Rattle.rules.specs.declared.State.{State}
-use Rattle.rules.specs.declared.Ticked.{Ticked}
+use Rattle.rules.specs.Answers.{Ticked}
 use Rattle.rules.specs.Words.{total}
 use Rattle.rules.specs.Limits.{most_tasks, most_speeds, most_ticks}
 use Rattle.rules.specs.State.{Shaped, period_at, speed_at, volts_at, count_at, job_at, speeds_of, top_of}

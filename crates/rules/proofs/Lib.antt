@@ -1,5 +1,7 @@
+pub mod Answered
 pub mod Answers
 pub mod CallRows
+pub mod Chains
 pub mod Climbs
 pub mod Counted
 pub mod Deadlines
@@ -23,3 +25,4 @@ pub mod Tables
 pub mod Totals
 pub mod Uses
 pub mod WalkLaws
+pub mod Zero

@@ -1,5 +1,5 @@
 -- The four calls: what each answers for every input, refusals too.
-use Rattle.std.specs.Prelude.{ℕ, false, cond, List, [], eqb, length, get_or}
+use Rattle.std.specs.Prelude.{ℕ, false, cond, List, [], eqb, length, get_or, Result, Ok, Err}
 use Rattle.units.specs.Units.{ticks, cycles, speed, volts}
 use Rattle.rules.specs.declared.Tasks.{Tasks}
 use Rattle.rules.specs.declared.Jobs.{Jobs}
@@ -7,10 +7,10 @@ use Rattle.rules.specs.declared.Ladder.{Ladder}
 use Rattle.rules.specs.declared.Tally.{Tally}
 use Rattle.rules.specs.declared.State.{State}
 use Rattle.rules.specs.declared.Choice.TheVariants.{Nothing}
-use Rattle.rules.specs.declared.Started.{Started}
-use Rattle.rules.specs.declared.Told.{Told}
-use Rattle.rules.specs.declared.Ticked.{Ticked}
-use Rattle.rules.specs.declared.Used.{Used}
+use Rattle.rules.specs.declared.Advice.{Advice}
+use Rattle.refusals.specs.declared.Refusal.{Refusal}
+use Rattle.refusals.specs.Refusals.{number_of}
+use Rattle.rules.specs.Answers.{Started, Told, Ticked, Used}
 use Rattle.rules.specs.Words.{up_to}
 use Rattle.rules.specs.Limits.{most_tasks, most_speeds}
 use Rattle.rules.specs.Choice.{choice_of, speed_place, speed_of}
@@ -88,3 +88,21 @@ unfoldable pub energy_of : State → Used
 energy_of s =
     let n = energy_number s in
     record { number = n; energy = cond (eqb n 0) (energy_sum s.ladder s.tally) 0 }
+
+-- what each call's answer, or its refusal, says in those numbers and values: 0 beside an answer; beside a refusal its number,
+-- the all-zero state of start, nothing chosen and speed 0 of now, the state given of tick, the energy 0 of energy
+unfoldable pub started_by : Result State Refusal → Started
+started_by (Ok s) = record { number = 0; state = s }
+started_by (Err r) = record { number = number_of r; state = zero_state }
+
+unfoldable pub told_by : Result Advice Refusal → Told
+told_by (Ok a) = record { number = 0; choice = a.choice; speed = a.speed }
+told_by (Err r) = record { number = number_of r; choice = Nothing; speed = speed 0 }
+
+unfoldable pub ticked_by : State → Result State Refusal → Ticked
+ticked_by given (Ok s) = record { number = 0; state = s }
+ticked_by given (Err r) = record { number = number_of r; state = given }
+
+unfoldable pub used_by : Result ℕ Refusal → Used
+used_by (Ok e) = record { number = 0; energy = e }
+used_by (Err r) = record { number = number_of r; energy = 0 }

@@ -7,4 +7,5 @@ pub mod Settlement
 pub mod Counting
 pub mod Admission
 pub mod Numbers
+pub mod Answers
 pub mod Calls

@@ -4,8 +4,9 @@
 use units::{Cycles, Speed, Ticks, Volts};
 
 // The task side of a table: how many tasks, the great period H, and each task's period and reserve.
+// Stays: arrays side by side with a count, since document 01 asks arrays of fixed length and C's layout (piszczalin.h) has them so; Jobs, Ladder and Tally too.
 #[repr(C)]
-#[derive(Clone, Copy)]
+#[derive(Clone, Copy, Debug, Default, PartialEq, Eq)]
 pub struct Tasks {
     pub count: usize,
     pub great: Ticks,
@@ -15,14 +16,14 @@ pub struct Tasks {
 
 // Each task's current job: the cycles that it ran, and whether it is over.
 #[repr(C)]
-#[derive(Clone, Copy)]
+#[derive(Clone, Copy, Debug, Default, PartialEq, Eq)]
 pub struct Jobs {
     pub run: [Cycles; 16],
     pub over: [bool; 16],
 }
 
 // One task with its current job.
-#[derive(Clone, Copy)]
+#[derive(Clone, Copy, Debug, Default, PartialEq, Eq)]
 pub struct Job {
     pub period: Ticks,
     pub reserve: Cycles,
@@ -32,7 +33,7 @@ pub struct Job {
 
 // The speed side of a table: how many speeds, and each with its volts.
 #[repr(C)]
-#[derive(Clone, Copy)]
+#[derive(Clone, Copy, Debug, Default, PartialEq, Eq)]
 pub struct Ladder {
     pub count: usize,
     pub speeds: [Speed; 8],
@@ -41,7 +42,7 @@ pub struct Ladder {
 
 // What has been counted: cycles granted at each speed, idle cycles, jobs that were late, jobs that were cut.
 #[repr(C)]
-#[derive(Clone, Copy)]
+#[derive(Clone, Copy, Debug, Default, PartialEq, Eq)]
 pub struct Tally {
     pub counts: [Cycles; 8],
     pub idle: Cycles,
@@ -51,7 +52,7 @@ pub struct Tally {
 
 // The whole state: the ticks done so far, the table, the current jobs and the counts.
 #[repr(C)]
-#[derive(Clone, Copy)]
+#[derive(Clone, Copy, Debug, Default, PartialEq, Eq)]
 pub struct State {
     pub done: Ticks,
     pub tasks: Tasks,
@@ -61,19 +62,19 @@ pub struct State {
 }
 
 // Rule 1: each task's deadline at a tick.
-#[derive(Clone, Copy)]
+#[derive(Clone, Copy, Debug, PartialEq, Eq)]
 pub struct Dues {
     pub at: [Ticks; 16],
 }
 
 // Rule 3: which places wait for their turn.
-#[derive(Clone, Copy)]
+#[derive(Clone, Copy, Debug, PartialEq, Eq)]
 pub struct Ready {
     pub at: [bool; 16],
 }
 
 // A tick being settled: the jobs and grants so far, the cycles left, the jobs cut.
-#[derive(Clone, Copy)]
+#[derive(Clone, Copy, Debug, PartialEq, Eq)]
 pub struct Settling {
     pub jobs: Jobs,
     pub grants: [Cycles; 16],
@@ -82,47 +83,23 @@ pub struct Settling {
 }
 
 // A tick's releases being made: the jobs so far, the jobs counted as late.
-#[derive(Clone, Copy)]
+#[derive(Clone, Copy, Debug, PartialEq, Eq)]
 pub struct Releasing {
     pub jobs: Jobs,
     pub late: u64,
 }
 
 // Rule 3's choice: a task, numbered from 1, with its deadline, or nothing ready.
-#[derive(Clone, Copy)]
+// Stays: an enum of its own in place of an Option, since document 01 asks that the chosen task is an enum: a task number with its deadline, or nothing ready.
+#[derive(Clone, Copy, Debug, PartialEq, Eq)]
 pub enum Choice {
     Task { number: u64, deadline: Ticks },
     Nothing,
 }
 
-// What start answers: a number, and the fresh state or the all-zero one.
-#[repr(C)]
-#[derive(Clone, Copy)]
-pub struct Started {
-    pub number: u64,
-    pub state: State,
-}
-
-// What now answers: a number, the choice and the speed.
-#[derive(Clone, Copy)]
-pub struct Told {
-    pub number: u64,
+// What now advises: the choice, and the speed for the whole tick.
+#[derive(Clone, Copy, Debug, PartialEq, Eq)]
+pub struct Advice {
     pub choice: Choice,
     pub speed: Speed,
-}
-
-// What tick answers: a number, and the next state or the one given.
-#[repr(C)]
-#[derive(Clone, Copy)]
-pub struct Ticked {
-    pub number: u64,
-    pub state: State,
-}
-
-// What energy answers: a number, and the energy or 0.
-#[repr(C)]
-#[derive(Clone, Copy)]
-pub struct Used {
-    pub number: u64,
-    pub energy: u64,
 }

@@ -1,22 +1,22 @@
 -- Lines that are spelled are read as they are: group by group, by the lines that are left.
 use mathlib.Core.Path.{◌≡◌, refl, sym, ap, ◌∙◌}
-use mathlib.Core.Bool.{true, false, ◌&&◌}
-use mathlib.Core.List.{List, [], ◌∷◌, ◌++◌, append-nil, append_assoc}
+use mathlib.Core.Bool.{Bool, true, false, ◌&&◌, and-true, and_assoc}
+use mathlib.Core.List.{List, [], ◌∷◌, ◌++◌}
 use Prim.Native.Nat.{ℕ, zero, suc, ◌+◌, ◌^◌, ◌≤◌, ◌<◌}
 use native.Mathlib.Nat.{not-suc-le-zero, le_of_suc-le-suc}
-use native.Mathlib.Numerals.{add-one}
 use native.Mathlib.Omega.{arith}
 use borrow.Author.Tests.{ltb-true}
-use lib.ListN.{length, take, drop, set, length-set}
-use lib.Seq.{take-suc-set}
+use lib.ListN.{length, drop, length-append}
+use Rattle.std.specs.List.{list_all}
+use Rattle.units.specs.Units.{ticks, cycles}
+use Rattle.runfile.specs.declared.End.{End}
 use Rattle.words.specs.Words.{begins, stands_at}
 use Rattle.decimal.specs.Decimal.{fits64}
 use Rattle.lines.specs.Lines.{end_word}
 use Rattle.lines.specs.Spelled.{two_numbers, three_numbers}
 use Rattle.lines.proofs.Spelled.{after_front, word_here, two_read, three_read}
 use Rattle.runfile.specs.declared.Pairs.{Pairs}
-use Rattle.runfile.specs.declared.Ends.{Ends}
-use Rattle.runfile.specs.Groups.{more_pairs, more_ends, pairs_read, pairs_from, ends_read, end_good, ends_from}
+use Rattle.runfile.specs.Groups.{Ends, more_pairs, more_ends, pairs_read, pairs_from, ends_read, end_good, ends_from}
 use Rattle.runfile.specs.Spelled.{TwoLine, ThreeLine, two_lines, end_lines, pairs_laid, ends_laid, twos_fit, threes_fit, ends_rise, ticks_of}
 use Rattle.runfile.proofs.Splits.{both}
 use Rattle.runfile.proofs.Pairing.{group_ends, one_line}
@@ -61,17 +61,20 @@ ends_read_lem text rest known other (l ∷ ls) (suc left) at earlier former p fi
     (more.0, one_end text known at earlier former p (word_here text at end_word after e) refl line.1 left refl good.0 ∙ more.1, more.2)
 
 -- how many lines were laid
-pub pairs_count : (ls : List TwoLine) (p : Pairs) → (pairs_laid p ls).count ≡ p.count + length ls
+pub pairs_count : (ls : List TwoLine) (p : Pairs) → length (pairs_laid p ls).firsts.items ≡ length p.firsts.items + length ls
 unfolding pairs_laid more_pairs
 pairs_count [] p = omega arith
-pairs_count (l ∷ ls) p = pairs_count ls (more_pairs p l.first l.second) ∙ omega arith
+pairs_count (l ∷ ls) p = pairs_count ls (more_pairs p l.first l.second) ∙ omega (arith, length-append p.firsts.items (l.first ∷ []))
 
--- the ticks of end lines laid into arrays that have room for them
-pub ends_ticks : (ls : List ThreeLine) (e : Ends) → e.count + length ls ≤ length e.ticks → take (ends_laid e ls).count (ends_laid e ls).ticks ≡ take e.count e.ticks ++ ticks_of ls
+-- a test of the ticks of end lines that were laid is that of those before and that of the lines
+pub ends_ticks : (t : ℕ → Bool) (ls : List ThreeLine) (e : Ends) → list_all (λ (x : End). t x.tick.0) (ends_laid e ls).items ≡ (list_all (λ (x : End). t x.tick.0) e.items && list_all t (ticks_of ls))
 unfolding ends_laid ticks_of more_ends
-ends_ticks [] e h = sym (append-nil (take e.count e.ticks))
-ends_ticks (l ∷ ls) e h =
-    let next : take (e.count + 1) (set e.ticks e.count l.tick) ≡ take e.count e.ticks ++ (l.tick ∷ []) = rw (add-one e.count) (take-suc-set e.ticks e.count l.tick (omega arith)) in
-    ends_ticks ls (more_ends e l.tick l.task l.cycles) (rw (length-set e.ticks e.count l.tick) (omega arith))
-    ∙ ap (λ (x : List ℕ). x ++ ticks_of ls) next
-    ∙ append_assoc (take e.count e.ticks) (l.tick ∷ []) (ticks_of ls)
+ends_ticks t [] e = sym (and-true _)
+ends_ticks t (l ∷ ls) e =
+    ends_ticks t ls (more_ends e l.tick l.task l.cycles)
+    ∙ ap (λ (b : Bool). b && list_all t (ticks_of ls)) (all_more e.items)
+    ∙ and_assoc (list_all (λ (x : End). t x.tick.0) e.items) (t l.tick) (list_all t (ticks_of ls))
+  where
+    all_more : (xs : List End) → list_all (λ (x : End). t x.tick.0) (xs ++ (record { tick = ticks l.tick; task = l.task; cycles = cycles l.cycles } ∷ [])) ≡ (list_all (λ (x : End). t x.tick.0) xs && t l.tick)
+    all_more [] = and-true _
+    all_more (x ∷ xs) = ap (λ (b : Bool). t x.tick.0 && b) (all_more xs) ∙ sym (and_assoc (t x.tick.0) (list_all (λ (x : End). t x.tick.0) xs) (t l.tick))

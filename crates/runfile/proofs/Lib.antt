@@ -2,7 +2,6 @@ pub mod Splits
 pub mod Rising
 pub mod Pairing
 pub mod Ending
-pub mod Closing
 pub mod Stages
 pub mod Kept
 pub mod Risen

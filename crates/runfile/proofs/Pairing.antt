@@ -1,5 +1,5 @@
 -- Task lines and speed lines, one turn of the reader: what is left to read from the next place on, by the line that stands there.
-use mathlib.Core.Path.{◌≡◌, sym, ap, ap₂, ◌∙◌}
+use mathlib.Core.Path.{◌≡◌, ap, ◌∙◌}
 use mathlib.Core.Bool.{true, false}
 use mathlib.Core.List.{List, [], ◌∷◌}
 use Prim.Native.Nat.{ℕ, zero, suc, ◌+◌, ◌-◌, ◌≤◌, ◌<◌}
@@ -8,10 +8,10 @@ use lib.ListN.{length}
 use Rattle.words.specs.Words.{stands_at}
 use Rattle.words.proofs.Begins.{stands_within}
 use Rattle.lines.specs.declared.PairLine.{PairLine}
-use Rattle.lines.specs.declared.PairLine.TheVariants.{Pair, WrongPair}
-use Rattle.lines.specs.Lines.{pair_at}
+use Rattle.std.specs.Prelude.{Option, None}
+use Rattle.lines.specs.Lines.{read_pair, pair_at}
 use Rattle.runfile.specs.declared.Pairs.{Pairs}
-use Rattle.runfile.specs.Groups.{no_pairs, more_pairs, pairs_read, wrong_pairs, with_pair, pairs_from}
+use Rattle.runfile.specs.Groups.{more_pairs, pairs_read, with_pair, pairs_from}
 
 module _ (word text : List ℕ) (at : ℕ) (sofar : Pairs) where
   -- another word: the group ends there
@@ -21,37 +21,30 @@ module _ (word text : List ℕ) (at : ℕ) (sofar : Pairs) where
   group_ends (suc left) e = rw e
 
   -- where no line may follow, one that does is wrong
-  at_limit : stands_at text at word ≡ true → pairs_from word text 0 at sofar ≡ wrong_pairs
+  at_limit : stands_at text at word ≡ true → pairs_from word text 0 at sofar ≡ None
   unfolding pairs_from
   at_limit e = rw e
 
   -- a line too many is wrong
-  pub line_too_many : (most count : ℕ) → most ≤ count → stands_at text at word ≡ true → pairs_from word text (most - count) at sofar ≡ wrong_pairs
+  pub line_too_many : (most count : ℕ) → most ≤ count → stands_at text at word ≡ true → pairs_from word text (most - count) at sofar ≡ None
   line_too_many most count h e = ap (λ (left : ℕ). pairs_from word text left at sofar) (omega arith) ∙ at_limit e
 
-  module _ {line : PairLine} (e : stands_at text at word ≡ true) (d : line ≡ pair_at text (at + length word)) where
+  module _ {line : Option PairLine} (e : stands_at text at word ≡ true) (d : line ≡ pair_at text (at + length word)) where
     -- a line with no two numbers is wrong
-    pub line_wrong : (left : ℕ) → line ≡ WrongPair → pairs_from word text left at sofar ≡ wrong_pairs
+    pub line_wrong : (left : ℕ) → line ≡ None → pairs_from word text left at sofar ≡ None
     unfolding pairs_from with_pair
     line_wrong zero h = rw e
     line_wrong (suc left) h = rw (e, ← d, h)
 
     -- a line with two numbers leaves one line less to read
-    pub one_line : (left : ℕ) {first second next : ℕ} → line ≡ Pair first second next → pairs_from word text (suc left) at sofar ≡ pairs_from word text left next (more_pairs sofar first second)
+    pub one_line : (left : ℕ) {first second next : ℕ} → line ≡ read_pair first second next → pairs_from word text (suc left) at sofar ≡ pairs_from word text left next (more_pairs sofar first second)
     unfolding pairs_from with_pair
     one_line left q = rw (e, ← d, q)
 
     -- a line with two numbers is taken to those before it
-    pub line_taken : (most count : ℕ) {first second next : ℕ} → count < most → line ≡ Pair first second next
+    pub line_taken : (most count : ℕ) {first second next : ℕ} → count < most → line ≡ read_pair first second next
         → pairs_from word text (most - count) at sofar ≡ pairs_from word text (most - (count + 1)) next (more_pairs sofar first second)
     line_taken most count h q = ap (λ (left : ℕ). pairs_from word text left at sofar) (omega arith) ∙ one_line (most - (count + 1)) q
-
--- before the first line all of them are left
-pub group_begins : (word text : List ℕ) (most at : ℕ) (p : Pairs) → p ≡ no_pairs → (p.count ≤ most) × (pairs_from word text most at no_pairs ≡ pairs_from word text (most - p.count) at p)
-unfolding no_pairs
-group_begins word text most at p e =
-    let none : p.count ≡ 0 = ap (λ (q : Pairs). q.count) e in
-    (omega arith, ap₂ (λ (left : ℕ) (q : Pairs). pairs_from word text left at q) (omega arith) (sym e))
 
 -- the place after a word that stands in a text is small where the text is
 pub past_word : (text : List ℕ) (at most : ℕ) (word : List ℕ) → at < most → length text < most → stands_at text at word ≡ true → at + length word < most

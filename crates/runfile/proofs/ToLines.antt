@@ -3,7 +3,6 @@ use mathlib.Core.Path.{◌≡◌, refl, ap, ◌∙◌}
 use mathlib.Core.Bool.{Bool, true, false, cond}
 use mathlib.Core.List.{List, [], ◌∷◌, ◌++◌}
 use Prim.Native.Nat.{ℕ, zero, suc, zero-le, suc-le-suc, ◌+◌, ◌^◌, ◌≤◌, ◌<◌}
-use native.Mathlib.Nat.{not-suc-le-zero}
 use native.Mathlib.Omega.{arith}
 use borrow.Author.Tests.{lt-ltb}
 use lib.ListN.{length, drop, length-drop, length-append}
@@ -12,17 +11,15 @@ use Rattle.words.specs.Words.{stands_at}
 use Rattle.decimal.specs.Decimal.{decimal_of, fits64}
 use Rattle.decimal.proofs.Written.{some_digit}
 use Rattle.lines.specs.declared.PairLine.{PairLine}
-use Rattle.lines.specs.declared.PairLine.TheVariants.{Pair, WrongPair}
 use Rattle.lines.specs.declared.EndLine.{EndLine}
-use Rattle.lines.specs.declared.EndLine.TheVariants.{End, WrongEnd}
-use Rattle.lines.specs.Lines.{end_word, pair_at, end_at}
+use Rattle.std.specs.Prelude.{Option, Some, None}
+use Rattle.lines.specs.Lines.{end_word, read_pair, pair_at, read_end, end_at}
 use Rattle.lines.specs.Spelled.{LineBreak, two_numbers, three_numbers}
 use Rattle.lines.proofs.Unread.{word_front, two_front, three_front}
 use Rattle.runfile.specs.declared.Pairs.{Pairs}
-use Rattle.runfile.specs.declared.Ends.{Ends}
 use Rattle.runfile.specs.declared.groups.PairsRead.{PairsRead}
 use Rattle.runfile.specs.declared.groups.EndsRead.{EndsRead}
-use Rattle.runfile.specs.Groups.{more_pairs, more_ends, pairs_read, wrong_pairs, with_pair, pairs_from, ends_read, wrong_ends, end_good, with_end, ends_from}
+use Rattle.runfile.specs.Groups.{Ends, more_pairs, more_ends, pairs_read, with_pair, pairs_from, ends_read, end_good, with_end, ends_from}
 use Rattle.runfile.specs.Spelled.{TwoLine, ThreeLine, two_lines, end_lines, pairs_laid, ends_laid, twos_fit, threes_fit, ends_rise}
 
 -- a number below 2^64 fits
@@ -65,36 +62,35 @@ pub record TakenTwos (word text : List ℕ) (left at : ℕ) (p q : Pairs) (next 
   pub front : drop at text ≡ two_lines word lines (drop next text)
 
 -- a group that was read, and was not the end of the text, was spelled
-abbrev BackTwos : List ℕ → List ℕ → ℕ → ℕ → Pairs → PairsRead → Type 0
-BackTwos word text left at p r = r.number ≡ 0 → r.next < length text → TakenTwos word text left at p r.pairs r.next
+abbrev pub BackTwos : List ℕ → List ℕ → ℕ → ℕ → Pairs → Option PairsRead → Type 0
+BackTwos word text left at p (Some r) = r.next < length text → TakenTwos word text left at p r.pairs r.next
+BackTwos word text left at p None = Unit {0}
 
 module _ (word text : List ℕ) (left at : ℕ) (p : Pairs) where
   -- whichever of two answers is given, it was spelled
-  twos_either : (b : Bool) (r s : PairsRead) → (b ≡ true → BackTwos word text left at p r) → BackTwos word text left at p s → BackTwos word text left at p (cond b r s)
+  twos_either : (b : Bool) (r s : Option PairsRead) → (b ≡ true → BackTwos word text left at p r) → BackTwos word text left at p s → BackTwos word text left at p (cond b r s)
   twos_either true r s h k = h refl
   twos_either false r s h k = k
 
-  -- the wrong group claims nothing
-  twos_wrong : BackTwos word text left at p wrong_pairs
-  unfolding wrong_pairs
-  twos_wrong e = absurd (not-suc-le-zero {n = 13} (omega (arith, e)))
-
-  -- nor does a wrong line
-  twos_with : (line : PairLine) (go : ℕ → ℕ → ℕ → PairsRead) → ((a b n : ℕ) → line ≡ Pair a b n → BackTwos word text left at p (go a b n)) → BackTwos word text left at p (with_pair line go)
+  -- a wrong line claims nothing
+  twos_with : (line : Option PairLine) (go : ℕ → ℕ → ℕ → Option PairsRead) → ((a b n : ℕ) → line ≡ read_pair a b n → BackTwos word text left at p (go a b n)) → BackTwos word text left at p (with_pair line go)
   unfolding with_pair
-  twos_with (Pair a b n) go h = h a b n refl
-  twos_with WrongPair go h = twos_wrong
+  twos_with (Some l) go h = h l.first l.second l.next refl
+  twos_with None go h = tt
 
   -- no line taken
   twos_none : BackTwos word text left at p (pairs_read p at)
-  unfolding pairs_read twos_fit pairs_laid two_lines
-  twos_none e inside = record { lines = []; few = zero-le; fit = refl; laid = refl; front = refl }
+  unfolding twos_fit pairs_laid two_lines
+  twos_none inside = record { lines = []; few = zero-le; fit = refl; laid = refl; front = refl }
 
 -- one line taken, and those after it
-twos_more : (word text : List ℕ) (left at : ℕ) (p q : Pairs) (next a b n : ℕ) → stands_at text at word ≡ true → pair_at text (at + length word) ≡ Pair a b n → next < length text
-    → TakenTwos word text left n (more_pairs p a b) q next → TakenTwos word text (suc left) at p q next
+twos_more : (word text : List ℕ) (left at : ℕ) (p : Pairs) (a b n : ℕ) → stands_at text at word ≡ true → pair_at text (at + length word) ≡ read_pair a b n
+    → (r : Option PairsRead) → BackTwos word text left n (more_pairs p a b) r → BackTwos word text (suc left) at p r
 unfolding twos_fit pairs_laid two_lines
-twos_more word text left at p q next a b n stands e inside t =
+twos_more word text left at p a b n stands e None back = tt
+twos_more word text left at p a b n stands e (Some r) back = λ inside.
+    let next = r.next in
+    let t = back inside in
     let some : 1 ≤ length (drop next text) = omega (arith, length-drop next text) in
     let within : n < length text = left_within text n (two_lines word t.lines (drop next text)) t.front (twos_some word t.lines (drop next text) some) in
     let line = two_front text (at + length word) a b n e within in
@@ -109,11 +105,11 @@ twos_more word text left at p q next a b n stands e inside t =
 -- task lines or speed lines that were read were spelled
 pub twos_back : (word text : List ℕ) (left at : ℕ) (p : Pairs) → BackTwos word text left at p (pairs_from word text left at p)
 unfolding pairs_from
-twos_back word text zero at p = twos_either word text zero at p (stands_at text at word) wrong_pairs (pairs_read p at) (λ _. twos_wrong word text zero at p) (twos_none word text zero at p)
+twos_back word text zero at p = twos_either word text zero at p (stands_at text at word) None (pairs_read p at) (λ _. tt) (twos_none word text zero at p)
 twos_back word text (suc left) at p =
     twos_either word text (suc left) at p (stands_at text at word) _ (pairs_read p at)
     (λ s. twos_with word text (suc left) at p (pair_at text (at + length word)) _
-    (λ a b n e good inside. twos_more word text left at p _ _ a b n s e inside (twos_back word text left n (more_pairs p a b) good inside)))
+    (λ a b n e. twos_more word text left at p a b n s e (pairs_from word text left n (more_pairs p a b)) (twos_back word text left n (more_pairs p a b))))
     (twos_none word text (suc left) at p)
 
 -- end lines that spell what was read from a place on, up to the next, and lay q after p
@@ -126,38 +122,37 @@ pub record TakenThrees (text : List ℕ) (known left at earlier former : ℕ) (p
   pub front : drop at text ≡ end_lines lines (drop next text)
 
 -- end lines that were read, and were not the end of the text, were spelled
-abbrev BackThrees : List ℕ → ℕ → ℕ → ℕ → ℕ → ℕ → Ends → EndsRead → Type 0
-BackThrees text known left at earlier former p r = r.number ≡ 0 → r.next < length text → TakenThrees text known left at earlier former p r.ends r.next
+abbrev pub BackThrees : List ℕ → ℕ → ℕ → ℕ → ℕ → ℕ → Ends → Option EndsRead → Type 0
+BackThrees text known left at earlier former p (Some r) = r.next < length text → TakenThrees text known left at earlier former p r.ends r.next
+BackThrees text known left at earlier former p None = Unit {0}
 
 module _ (text : List ℕ) (known left at earlier former : ℕ) (p : Ends) where
   -- whichever of two answers is given, it was spelled
-  threes_either : (b : Bool) (r s : EndsRead) → (b ≡ true → BackThrees text known left at earlier former p r) → BackThrees text known left at earlier former p s
+  threes_either : (b : Bool) (r s : Option EndsRead) → (b ≡ true → BackThrees text known left at earlier former p r) → BackThrees text known left at earlier former p s
       → BackThrees text known left at earlier former p (cond b r s)
   threes_either true r s h k = h refl
   threes_either false r s h k = k
 
-  -- wrong end lines claim nothing
-  threes_wrong : BackThrees text known left at earlier former p wrong_ends
-  unfolding wrong_ends
-  threes_wrong e = absurd (not-suc-le-zero {n = 13} (omega (arith, e)))
-
-  -- nor does a wrong line
-  threes_with : (line : EndLine) (go : ℕ → ℕ → ℕ → ℕ → EndsRead) → ((a b c n : ℕ) → line ≡ End (ticks a) b (cycles c) n → BackThrees text known left at earlier former p (go a b c n))
+  -- a wrong line claims nothing
+  threes_with : (line : Option EndLine) (go : ℕ → ℕ → ℕ → ℕ → Option EndsRead) → ((a b c n : ℕ) → line ≡ read_end (ticks a) b (cycles c) n → BackThrees text known left at earlier former p (go a b c n))
       → BackThrees text known left at earlier former p (with_end line go)
   unfolding with_end
-  threes_with (End a b c n) go h = h a.0 b c.0 n refl
-  threes_with WrongEnd go h = threes_wrong
+  threes_with (Some l) go h = h l.tick.0 l.task l.cycles.0 l.next refl
+  threes_with None go h = tt
 
   -- no line taken
   threes_none : BackThrees text known left at earlier former p (ends_read p at)
-  unfolding ends_read threes_fit ends_rise ends_laid end_lines
-  threes_none e inside = record { lines = []; few = zero-le; fit = refl; rise = refl; laid = refl; front = refl }
+  unfolding threes_fit ends_rise ends_laid end_lines
+  threes_none inside = record { lines = []; few = zero-le; fit = refl; rise = refl; laid = refl; front = refl }
 
 -- one line taken, and those after it
-threes_more : (text : List ℕ) (known left at earlier former : ℕ) (p q : Ends) (next a b c n : ℕ) → stands_at text at end_word ≡ true → end_at text (at + 4) ≡ End (ticks a) b (cycles c) n
-    → end_good known earlier former a b c ≡ true → next < length text → TakenThrees text known left n a b (more_ends p a b c) q next → TakenThrees text known (suc left) at earlier former p q next
+threes_more : (text : List ℕ) (known left at earlier former : ℕ) (p : Ends) (a b c n : ℕ) → stands_at text at end_word ≡ true → end_at text (at + 4) ≡ read_end (ticks a) b (cycles c) n
+    → end_good known earlier former a b c ≡ true → (r : Option EndsRead) → BackThrees text known left n a b (more_ends p a b c) r → BackThrees text known (suc left) at earlier former p r
 unfolding threes_fit ends_rise ends_laid end_lines end_word
-threes_more text known left at earlier former p q next a b c n stands e good inside t =
+threes_more text known left at earlier former p a b c n stands e good None back = tt
+threes_more text known left at earlier former p a b c n stands e good (Some r) back = λ inside.
+    let next = r.next in
+    let t = back inside in
     let some : 1 ≤ length (drop next text) = omega (arith, length-drop next text) in
     let within : n < length text = left_within text n (end_lines t.lines (drop next text)) t.front (ends_some t.lines (drop next text) some) in
     let line = three_front text (at + 4) a b c n e within in
@@ -174,11 +169,11 @@ threes_more text known left at earlier former p q next a b c n stands e good ins
 pub threes_back : (text : List ℕ) (known left at earlier former : ℕ) (p : Ends) → BackThrees text known left at earlier former p (ends_from text known left at earlier former p)
 unfolding ends_from
 threes_back text known zero at earlier former p =
-    threes_either text known zero at earlier former p (stands_at text at end_word) wrong_ends (ends_read p at) (λ _. threes_wrong text known zero at earlier former p) (threes_none text known zero at earlier former p)
+    threes_either text known zero at earlier former p (stands_at text at end_word) None (ends_read p at) (λ _. tt) (threes_none text known zero at earlier former p)
 threes_back text known (suc left) at earlier former p =
     threes_either text known (suc left) at earlier former p (stands_at text at end_word) _ (ends_read p at)
     (λ s. threes_with text known (suc left) at earlier former p (end_at text (at + 4)) _
-    (λ a b c n e. threes_either text known (suc left) at earlier former p (end_good known earlier former a b c) _ wrong_ends
-    (λ g good inside. threes_more text known left at earlier former p _ _ a b c n s e g inside (threes_back text known left n a b (more_ends p a b c) good inside))
-    (threes_wrong text known (suc left) at earlier former p)))
+    (λ a b c n e. threes_either text known (suc left) at earlier former p (end_good known earlier former a b c) _ None
+    (λ g. threes_more text known left at earlier former p a b c n s e g (ends_from text known left n a b (more_ends p a b c)) (threes_back text known left n a b (more_ends p a b c)))
+    tt))
     (threes_none text known (suc left) at earlier former p)

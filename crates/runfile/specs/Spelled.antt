@@ -1,14 +1,14 @@
 -- "Run files" without places: a text is a run file exactly when it is spelled by lines like these.
 use Rattle.std.specs.Prelude.{ℕ, ◌≤◌, ◌≡◌, Bool, true, ◌&&◌, List, [], ◌∷◌, ◌++◌, ltb, length}
+use Rattle.std.specs.List.{list_all}
 use Rattle.units.specs.Units.{ticks}
 use Rattle.decimal.specs.Decimal.{fits64}
 use Rattle.lines.specs.Lines.{task_word, speed_word, end_word}
 use Rattle.lines.specs.Spelled.{LineBreak, LastBreak, two_numbers, three_numbers, run_line}
 use Rattle.runfile.specs.declared.Pairs.{Pairs}
-use Rattle.runfile.specs.declared.Ends.{Ends}
 use Rattle.runfile.specs.declared.RunFile.{RunFile}
-use Rattle.runfile.specs.Groups.{most_task_lines, most_speed_lines, most_end_lines, no_pairs, more_pairs, no_ends, more_ends, end_good}
-use Rattle.runfile.specs.RunFile.{most_bytes, most_run_ticks, all}
+use Rattle.runfile.specs.Groups.{Ends, most_task_lines, most_speed_lines, most_end_lines, no_pairs, more_pairs, no_ends, more_ends, end_good}
+use Rattle.runfile.specs.RunFile.{most_bytes, most_run_ticks}
 
 -- a task line (period, reserve) or a speed line (speed, volts), and an end line, each with its line's end
 pub record TwoLine : Type 0 where
@@ -35,7 +35,7 @@ end_lines (l ∷ ls) rest = end_word ++ three_numbers l.tick l.task l.cycles l.e
 unfoldable pub spelling : List TwoLine → List TwoLine → List ThreeLine → ℕ → LastBreak → List ℕ
 spelling tasks speeds ends ticks last = two_lines task_word tasks (two_lines speed_word speeds (end_lines ends (run_line ticks last)))
 
--- the lines' numbers laid into arrays, after those that are there
+-- the lines' numbers taken, after those that are there
 unfoldable pub pairs_laid : Pairs → List TwoLine → Pairs
 pairs_laid p [] = p
 pairs_laid p (l ∷ ls) = pairs_laid (more_pairs p l.first l.second) ls
@@ -47,7 +47,6 @@ ends_laid e (l ∷ ls) = ends_laid (more_ends e l.tick l.task l.cycles) ls
 unfoldable pub file_of : List TwoLine → List TwoLine → List ThreeLine → ℕ → RunFile
 file_of tasks speeds ends run =
     record {
-      number = 0;
       tasks = pairs_laid no_pairs tasks;
       speeds = pairs_laid no_pairs speeds;
       ends = ends_laid no_ends ends;
@@ -91,4 +90,4 @@ pub record Spelled (text : List ℕ) (f : RunFile) : Type 0 where
   pub ends_fit : threes_fit ends ≡ true
   pub rise : ends_rise (length tasks) 0 0 ends ≡ true
   pub few_ticks : ticks ≤ most_run_ticks
-  pub below : all (λ t. ltb t ticks) (ticks_of ends) ≡ true
+  pub below : list_all (λ t. ltb t ticks) (ticks_of ends) ≡ true

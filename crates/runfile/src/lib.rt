@@ -6,51 +6,69 @@ mod groups;
 ghost use Rattle.std.specs.Prelude.{◌≡◌};
 ghost use Rattle.runfile.specs.RunFile.{run_file_of};
 
-use units::Ticks;
+use arrayvec::ArrayVec;
+use groups::{EndsRead, PairsRead};
+use lines::RunLine;
+use refusals::Refusal;
+use units::{Cycles, Ticks};
 
-// Task lines (period in ticks, reserve in cycles) or speed lines (speed, volts): how many, and the two numbers of each; zero past the last.
+// Task lines (period in ticks, reserve in cycles) or speed lines (speed, volts): the first numbers of all, and the second ones.
 #[derive(Drop)]
 pub struct Pairs {
-    pub count: usize,
-    pub firsts: [u64; 16],
-    pub seconds: [u64; 16],
+    pub firsts: ArrayVec<u64, 16>,
+    pub seconds: ArrayVec<u64, 16>,
 }
 
-// End lines: how many, and the tick, the task from 1 and the cycles of each; zero past the last.
-#[derive(Clone, Copy)]
-pub struct Ends {
-    pub count: usize,
-    pub ticks: [u64; 1000],
-    pub tasks: [u64; 1000],
-    pub cycles: [u64; 1000],
+// An end line: its tick, its task from 1 and its cycles.
+#[derive(Clone, Copy, Debug, Default, PartialEq, Eq)]
+pub struct End {
+    pub tick: Ticks,
+    pub task: u64,
+    pub cycles: Cycles,
 }
 
-// A text as a run file: number 0 and its lines, or 14, no line and no tick.
+// A run file: its groups of lines, and the run line's ticks.
 #[derive(Drop)]
 pub struct RunFile {
-    pub number: u64,
     pub tasks: Pairs,
     pub speeds: Pairs,
-    pub ends: Ends,
+    pub ends: ArrayVec<End, 1000>,
     pub ticks: Ticks,
 }
 
 // The run file that a text is; 14 where it is none.
-pub fn read(text: &[u8]) -> RunFile
+pub fn read(text: &[u8]) -> Result<RunFile, Refusal>
     ensures { result ≡ run_file_of text.now }
 {
     if text.len() > 65536 {
-        return groups::no_run_file();
+        return Err(Refusal::NoRunFile);
     }
-    let tasks = groups::pairs(text, 0, b"task,", 16);
-    if tasks.number != 0 {
-        return groups::no_run_file();
+    let Some(PairsRead { pairs: tasks, next }) = groups::pairs(text, 0, b"task,", 16) else {
+        return Err(Refusal::NoRunFile);
+    };
+    let Some(
+        PairsRead {
+            pairs: speeds,
+            next,
+        },
+    ) = groups::pairs(text, next, b"speed,", 8)
+    else {
+        return Err(Refusal::NoRunFile);
+    };
+    let Some(EndsRead { ends, next }) = groups::ends(text, next, tasks.firsts.len()) else {
+        return Err(Refusal::NoRunFile);
+    };
+    let Some(RunLine { ticks, next }) = lines::run_line(text, next) else {
+        return Err(Refusal::NoRunFile);
+    };
+    let closed = groups::closes(ends.as_slice(), ticks);
+    if next != text.len() || ticks.0 > 10000 || !closed {
+        return Err(Refusal::NoRunFile);
     }
-    let speeds = groups::pairs(text, tasks.next, b"speed,", 8);
-    if speeds.number != 0 {
-        return groups::no_run_file();
-    }
-    let task_lines = tasks.pairs;
-    let speed_lines = speeds.pairs;
-    groups::last_lines(text, speeds.next, task_lines, speed_lines)
+    Ok(RunFile {
+        tasks,
+        speeds,
+        ends,
+        ticks,
+    })
 }

@@ -1,12 +1,12 @@
 -- Numbers that climb, speeds by 1 and volts by 0: none is past its limit if the last is not, so the limits wait until the end of the walk.
-use mathlib.Core.Path.{◌≡◌, refl, ◌∙◌}
+use mathlib.Core.Path.{◌≡◌, refl}
 use mathlib.Core.Bool.{Bool, true, false, ◌&&◌}
 use mathlib.Core.List.{List, [], ◌∷◌}
 use Prim.Native.Nat.{ℕ, ◌+◌, ◌≤◌, ◌<◌}
 use native.Mathlib.Omega.{arith}
-use lib.Dec.{leb}
+use lib.Dec.{leb, ltb}
 use lib.ListN.{get_or, drop}
-use borrow.Author.Tests.{leb-true, le-leb, lt-leb}
+use borrow.Author.Tests.{leb-true, leb-false, ltb-true, ltb-false, le-leb, lt-leb}
 use Rattle.units.specs.Units.{speed, volts}
 use Rattle.units.specs.declared.Speed.{Speed}
 use Rattle.units.specs.declared.Volts.{Volts}
@@ -68,28 +68,27 @@ module _ (n : ℕ) (ss : List Speed) (vs : List Volts) where
   climb_from = rw (speeds_from (drop 0 (up_to n s)), volts_from (drop 0 (up_to n v)))
 
   module _ (low faint i : ℕ) where
-    pub climb_on : i < n → low < s i → 1 ≤ faint → faint ≤ v i → climbing_up low faint i ≡ climbing_up (s i) (v i) (i + 1)
+    pub climb_on : i < n → leb (s i) low ≡ false → 1 ≤ faint → ltb (v i) faint ≡ false → climbing_up low faint i ≡ climbing_up (s i) (v i) (i + 1)
     unfolding climbing_up
     climb_on h a f b =
+        let up : low < s i = leb-false (s i) low a in
+        let stays : faint ≤ v i = ltb-false (v i) faint b in
         rw (up_to_rest n s i h, up_to_rest n v i h, up_on most_speed 1 low (s i) (drop (i + 1) (up_to n s)) (omega arith) (omega arith), up_on most_volts 0 faint (v i) (drop (i + 1) (up_to n v)) (omega arith) (omega arith))
 
-    pub climb_slow : i < n → s i ≤ low → climbing_up low faint i ≡ false
+    pub climb_slow : i < n → leb (s i) low ≡ true → climbing_up low faint i ≡ false
     unfolding climbing_up
-    climb_slow h a = rw (up_to_rest n s i h, up_stop most_speed 1 low (s i) (drop (i + 1) (up_to n s)) (omega arith))
+    climb_slow h a =
+        let slow : s i ≤ low = leb-true (s i) low a in
+        rw (up_to_rest n s i h, up_stop most_speed 1 low (s i) (drop (i + 1) (up_to n s)) (omega arith))
 
-    pub climb_faint : i < n → v i < faint → climbing_up low faint i ≡ false
+    pub climb_faint : i < n → ltb (v i) faint ≡ true → climbing_up low faint i ≡ false
     unfolding climbing_up
     climb_faint h b =
+        let falls : v i < faint = ltb-true (v i) faint b in
         and-false (up_from most_speed 1 low (drop i (up_to n s))) (up_from most_volts 0 faint (drop i (up_to n v)))
         (rw (up_to_rest n v i h) (up_stop most_volts 0 faint (v i) (drop (i + 1) (up_to n v)) (omega arith)))
 
     -- at the end the limits are left
-    climb_end : n ≤ i → climbing_up low faint i ≡ (leb low most_speed && true && (leb faint most_volts && true))
+    pub climb_end : n ≤ i → climbing_up low faint i ≡ (leb low most_speed && leb faint most_volts)
     unfolding climbing_up up_from climbs_from
-    climb_end h = rw (up_to_end n s i h, up_to_end n v i h)
-
-    pub climb_fast : n ≤ i → most_speed < low → climbing_up low faint i ≡ false
-    climb_fast h a = climb_end h ∙ rw (lt-leb low most_speed a)
-
-    pub climb_done : n ≤ i → low ≤ most_speed → climbing_up low faint i ≡ leb faint most_volts
-    climb_done h a = climb_end h ∙ rw (le-leb low most_speed a) (and-true (leb faint most_volts))
+    climb_end h = rw (up_to_end n s i h, up_to_end n v i h, and-true (leb low most_speed), and-true (leb faint most_volts))

@@ -1,7 +1,7 @@
 -- The top speed by how many speeds are listed: none, more than there are places, or so many.
-use mathlib.Core.Path.{◌≡◌, sym, ap}
-use Prim.Native.Nat.{◌-◌, ◌≤◌, ◌<◌}
-use native.Mathlib.Nat.{min-eq_left, min-eq_right}
+use mathlib.Core.Path.{◌≡◌, ap}
+use Prim.Native.Nat.{min, ◌-◌, ◌≤◌, ◌<◌}
+use native.Mathlib.Nat.{min-eq_left}
 use native.Mathlib.Omega.{arith}
 use lib.ListN.{get_or}
 use Rattle.units.specs.Units.{speed}
@@ -14,23 +14,16 @@ use Rattle.rungs.specs.Rungs.{top_in}
 
 module _ (l : Ladder) where
   -- no speed listed: 0
-  pub top_none : l.count < 1 → speed 0 ≡ top_in l
+  pub top_none : l.count < 1 → top_in l ≡ speed 0
   unfolding top_in top_of up_to
   top_none h =
       let e : l.count ≡ 0 = omega arith in
       rw e
 
-  -- more than 8 speeds listed: the eighth
-  pub top_eighth : most_speeds < l.count → get_or l.speeds 7 (speed 0) ≡ top_in l
+  -- the last of those listed, of at most 8
+  pub top_last : 1 ≤ l.count → top_in l ≡ get_or l.speeds (min l.count most_speeds - 1) (speed 0)
   unfolding top_in speed_at
-  top_eighth h =
-      let m : most_speeds ≤ l.count = omega arith in
-      sym (rw (min-eq_right m) (ap speed (last_at most_speeds (speed_at l) (omega arith))))
-
-  -- from 1 to 8 speeds listed: the last
-  pub top_last : 1 ≤ l.count → l.count ≤ most_speeds → get_or l.speeds (l.count - 1) (speed 0) ≡ top_in l
-  unfolding top_in speed_at
-  top_last a b = sym (rw (min-eq_left b) (ap speed (last_at l.count (speed_at l) a)))
+  top_last a = ap speed (last_at (min l.count most_speeds) (speed_at l) (omega arith))
 
   -- at most 8 speeds listed: the rules' top speed
   pub top_is : l.count ≤ most_speeds → (top_in l).0 ≡ top_of (speeds_of l)

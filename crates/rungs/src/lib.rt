@@ -10,33 +10,20 @@ use rules::{Ladder, Tally};
 use units::Speed;
 
 // From 1 to 8 speeds that climb, and zeros past them.
-pub fn ladder_right(ladder: Ladder, tally: Tally) -> bool
-    ensures { result ≡ ladder_right ladder tally }
+#[tactic(auto, using(crate::proofs::RungLaws::ladder_is, std::proofs::lemmas::Bool::Decides::nat_tests), unfolding(rules::specs::Limits::up_to_most))]
+pub fn ladder_right(ladder: &Ladder, tally: &Tally) -> bool
+    ensures { result ≡ ladder_right ladder.now tally.now }
 {
-    let count = ladder.count;
-    if count < 1 {
-        return false;
-    }
-    if count > 8 {
-        return false;
-    }
-    if !walks::climbs(ladder) {
-        return false;
-    }
-    walks::past_unused(ladder, tally)
+    (1..=8).contains(&ladder.count) && walks::climbs(ladder) && walks::past_unused(ladder, tally)
 }
 
 // The top speed: the last of the speeds listed, of at most 8; 0 where none is listed.
-pub fn top_of(ladder: Ladder) -> Speed
-    ensures { result ≡ top_in ladder }
+#[tactic(auto, using(crate::proofs::TopLaws::top_none, crate::proofs::TopLaws::top_last))]
+pub fn top_of(ladder: &Ladder) -> Speed
+    ensures { result ≡ top_in ladder.now }
 {
-    let speeds = ladder.speeds;
-    let listed = ladder.count;
-    if listed < 1 {
+    if ladder.count < 1 {
         return Speed(0);
     }
-    if listed > 8 {
-        return speeds[7];
-    }
-    speeds[listed - 1]
+    ladder.speeds[ladder.count.min(8) - 1]
 }

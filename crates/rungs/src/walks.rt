@@ -7,64 +7,42 @@ use rules::{Ladder, Tally};
 use units::{Cycles, Speed, Volts};
 
 // No. 5 and 6: whether speeds below the count rise and volts never fall, from 1 on. The last of each is then the greatest, so its limit is tested once.
-pub(crate) fn climbs(ladder: Ladder) -> bool
-    requires { ladder.count ≤ most_speeds }
-    ensures { result ≡ climbing ladder.count ladder.speeds ladder.volts 0 0 0 }
+#[tactic(auto, using(crate::proofs::ClimbLaws::climb_from, crate::proofs::ClimbLaws::climb_on, crate::proofs::ClimbLaws::climb_slow, crate::proofs::ClimbLaws::climb_faint, crate::proofs::ClimbLaws::climb_end, std::proofs::lemmas::Bool::Decides::nat_tests))]
+pub(crate) fn climbs(ladder: &Ladder) -> bool
+    requires { ladder.now.count ≤ most_speeds }
+    ensures { result ≡ climbing ladder.now.count ladder.now.speeds ladder.now.volts 0 0 0 }
 {
-    let count = ladder.count;
-    let speeds = ladder.speeds;
-    let volts = ladder.volts;
     let mut low = Speed(0);
     let mut faint = Volts(1);
-    let mut i = 0;
-    while i < count {
-        let speed = speeds[i];
-        let tenths = volts[i];
-        if speed.0 <= low.0 {
-            return false;
-        }
-        if tenths.0 < faint.0 {
+    for i in 0..ladder.count {
+        let speed = ladder.speeds[i];
+        let tenths = ladder.volts[i];
+        if speed <= low || tenths < faint {
             return false;
         }
         low = speed;
         faint = tenths;
-        i += 1;
     }
-    if low.0 > 1000000 {
-        return false;
-    }
-    faint.0 <= 100
+    low.0 <= 1000000 && faint.0 <= 100
 }
 
 // Whether a place holds no speed, no volts and no cycles counted.
+#[tactic(auto, unfolding(crate::specs::Parts::zeros))]
 pub(crate) fn unused_rung(speed: Speed, volts: Volts, counted: Cycles) -> bool
     ensures { result ≡ zeros speed volts counted }
 {
-    if speed.0 != 0 {
-        return false;
-    }
-    if volts.0 != 0 {
-        return false;
-    }
-    counted.0 == 0
+    speed == Speed(0) && volts == Volts(0) && counted == Cycles(0)
 }
 
-// Whether every place from the count on is unused. A walk over a fixed number of places compiles to less than one that begins at the count.
-pub(crate) fn past_unused(ladder: Ladder, tally: Tally) -> bool
-    ensures { result ≡ zeros_from ladder.speeds ladder.volts tally.counts ladder.count }
+// Whether every place from the count on is unused.
+#[tactic(auto, using(crate::proofs::RungLaws::past_on, crate::proofs::RungLaws::past_stop, crate::proofs::RungLaws::past_end))]
+pub(crate) fn past_unused(ladder: &Ladder, tally: &Tally) -> bool
+    ensures { result ≡ zeros_from ladder.now.speeds ladder.now.volts tally.now.counts ladder.now.count }
 {
-    let count = ladder.count;
-    let speeds = ladder.speeds;
-    let volts = ladder.volts;
-    let counts = tally.counts;
-    let mut i = 0;
-    while i < 8 {
-        if i >= count {
-            if !unused_rung(speeds[i], volts[i], counts[i]) {
-                return false;
-            }
+    for i in ladder.count..8 {
+        if !unused_rung(ladder.speeds[i], ladder.volts[i], tally.counts[i]) {
+            return false;
         }
-        i += 1;
     }
     true
 }

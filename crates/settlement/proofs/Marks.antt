@@ -1,13 +1,12 @@
--- The entries that must be 0, as one walk over the places with two marks: place by place; and that it is rule 4's last bullet with its first for the jobs that still wait.
-use mathlib.Core.Path.{◌≡◌, refl, sym, ◌∙◌}
-use mathlib.Core.Bool.{Bool, true, false, not, ◌&&◌, ◌||◌}
+-- The entries that must be 0, as one test of the places with two marks: a chain's; and that it is rule 4's last bullet with its first for the jobs that still wait.
+use mathlib.Core.Path.{◌≡◌, refl, sym, ap, ◌∙◌}
+use mathlib.Core.Bool.{Bool, true, false, false≢true, not, ◌&&◌, ◌||◌}
 use mathlib.Core.List.{List, [], ◌∷◌}
-use Prim.Native.Nat.{ℕ, zero, suc, zero-le, suc-le-suc, ◌+◌, ◌≤◌, ◌<◌, min}
-use native.Mathlib.Nat.{le_of_suc-le-suc, not-suc-le-zero}
+use Prim.Native.Nat.{ℕ, zero, suc, zero-le, suc-le-suc, ◌≤◌, ◌<◌, min}
+use native.Mathlib.Nat.{zero-add, le_of_suc-le-suc, not-suc-le-zero}
 use native.Mathlib.Omega.{arith}
 use lib.Dec.{eqb}
-use lib.ListN.{length, get_or, drop, get_or-eq_default}
-use borrow.Author.Tests.{eq-eqb, ne_eqb}
+use lib.ListN.{length, get_or, get_or-eq_default}
 use Rattle.rules.specs.declared.Tasks.{Tasks}
 use Rattle.rules.specs.declared.Jobs.{Jobs}
 use Rattle.rules.specs.declared.Dues.{Dues}
@@ -17,48 +16,28 @@ use Rattle.rules.specs.Limits.{most_tasks}
 use Rattle.rules.specs.State.{job_at}
 use Rattle.rules.specs.Choice.{order_by}
 use Rattle.rules.specs.Settlement.{over_entries_zero}
-use Rattle.rules.proofs.Lists.{and-true, up_to_rest, up_to_end, up_to_all}
+use Rattle.rules.proofs.Lists.{and-true, up_to-ext, up_to_get_d, up_to_all, every_all, every_at}
+use Rattle.std.specs.Bool.{MatchBool}
+use Rattle.std.specs.List.{range_with_len, AllWithin, HoldsAt}
+use Rattle.std.proofs.lemmas.List.FromFn.{length-range_with_len, get_or-range_with_len}
 use Rattle.rules.proofs.Orders.{every-insert, order_in_lem, order_out}
 use Rattle.choosing.specs.Choosing.{due_in, waits_in, waiting_in}
 use Rattle.settlement.specs.Parts.{rest_zero}
 
--- the walk
-module _ (over waits : List Bool) (report : List ℕ) where
-  -- whether a place has entry 0 where it must, and whether the places from i to n do
-  abbrev pub keeps : ℕ → Bool
-  keeps i = not (get_or over i false || get_or waits i false) || eqb (get_or report i 0) 0
+-- a test that a chain asks of the places below n in turn
+range_up_to : (n : ℕ) → range_with_len 0 n ≡ up_to n (λ i. i)
+range_up_to n =
+    sym (up_to_get_d (range_with_len 0 n) n 0 (length-range_with_len 0 n))
+    ∙ up_to-ext n (λ i. get_or (range_with_len 0 n) i 0) (λ i. i) (λ i l. get_or-range_with_len 0 n i 0 l ∙ zero-add i)
 
-  abbrev pub kept : ℕ → ℕ → Bool
-  kept n i = every keeps (drop i (up_to n (λ k. k)))
-
-  -- a turn: a place with neither mark, or with one and entry 0; or it stops at an entry that is not 0; or it ends
-  pub kept_free : (n i : ℕ) → i < n → get_or over i false ≡ false → get_or waits i false ≡ false → kept n i ≡ kept n (i + 1)
-  unfolding every
-  kept_free n i l o w = rw (up_to_rest n (λ k. k) i l, o, w)
-
-  pub kept_zero : (n i u : ℕ) → i < n → u ≡ get_or report i 0 → u ≡ 0 → kept n i ≡ kept n (i + 1)
-  unfolding every
-  kept_zero n i u l e z =
-      rw (up_to_rest n (λ k. k) i l, eq-eqb (get_or report i 0) 0 (sym e ∙ z)) (either (get_or over i false || get_or waits i false) (kept n (i + 1)))
-    where
-      either : (a b : Bool) → ((not a || true) && b) ≡ b
-      either true b = refl
-      either false b = refl
-
-  pub kept_broken : (n i u : ℕ) → i < n → (get_or over i false || get_or waits i false) ≡ true → u ≡ get_or report i 0 → (u ≡ 0 → ⊥) → kept n i ≡ false
-  unfolding every
-  kept_broken n i u l o e z = rw (up_to_rest n (λ k. k) i l, o, ← e, ne_eqb u 0 z)
-
-  pub kept_end : (n i : ℕ) → n ≤ i → kept n i ≡ true
-  unfolding every
-  kept_end n i l = rw (up_to_end n (λ k. k) i l)
-
--- one of the two marks
-pub or_left : (a b : Bool) → a ≡ true → (a || b) ≡ true
-or_left a b e = rw e
-
-pub or_right : (a b : Bool) → a ≡ false → b ≡ true → (a || b) ≡ true
-or_right a b e f = rw (e, f)
+pub all-every : (p : ℕ → Bool) (n : ℕ) (r : Bool) → MatchBool r (AllWithin (λ i. p i ≡ true) (range_with_len 0 n) 0 (length (range_with_len 0 n))) ((k : ℕ) × (k < length (range_with_len 0 n)) × HoldsAt (λ i. p i ≡ false) (range_with_len 0 n) k)
+    → r ≡ every p (up_to n (λ i. i))
+all-every p n true h = sym (ap (every p) (sym (range_up_to n)) ∙ every_all p (range_with_len 0 n) 0 (λ i l. h i 0 zero-le l))
+all-every p n false h = go (every p (range_with_len 0 n)) refl ∙ ap (every p) (range_up_to n)
+  where
+    go : (b : Bool) → every p (range_with_len 0 n) ≡ b → false ≡ every p (range_with_len 0 n)
+    go true e = absurd (false≢true (sym (h.2 0) ∙ every_at p (range_with_len 0 n) 0 h.0 e h.1))
+    go false e = sym e
 
 -- a test of two parts at every entry
 every_parts : (p q r : ℕ → Bool) → ((i : ℕ) → r i ≡ (p i && q i)) → (l : List ℕ) → every r l ≡ (every p l && every q l)

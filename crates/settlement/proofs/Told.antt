@@ -1,4 +1,4 @@
--- What a settlement answers and writes, by whether an entry breaks rule 4: as at the tick's start, or the whole order settled, with each job's cycles in the grants list.
+-- What a settlement answers and writes, by whether an entry breaks rule 4: nothing, or the whole order settled, with each job's cycles in the grants list.
 use mathlib.Core.Path.{◌≡◌, ap}
 use mathlib.Core.Bool.{true, false, cond}
 use mathlib.Core.List.{List}
@@ -6,6 +6,7 @@ use Prim.Native.Nat.{ℕ, ◌≤◌}
 use native.Mathlib.Omega.{arith}
 use borrow.Author.Tests.{lt-ltb}
 use lib.ListN.{length, get_or}
+use Rattle.std.specs.Prelude.{Some, None}
 use Rattle.units.specs.Units.{cycles}
 use Rattle.units.specs.declared.Cycles.{Cycles}
 use Rattle.rules.specs.declared.Tasks.{Tasks}
@@ -22,7 +23,7 @@ module _ (ts : Tasks) (js : Jobs) (order : List ℕ) (speed : ℕ) (report : Lis
   module _ (lawful : lawful_in ts js order speed report ≡ true) where
     pub settled-lawful :
         let o : Settling = settle_all ts report order (at_tick_start js speed) in
-        settled_of ts js order speed report ≡ record { jobs = o.jobs; left = o.left; cut = o.cut; lawful = true }
+        settled_of ts js order speed report ≡ Some (record { jobs = o.jobs; left = o.left; cut = o.cut })
     unfolding settled_of outcome_in
     settled-lawful = rw lawful
 
@@ -32,8 +33,8 @@ module _ (ts : Tasks) (js : Jobs) (order : List ℕ) (speed : ℕ) (report : Lis
 
   -- one does
   module _ (broken : lawful_in ts js order speed report ≡ false) where
-    pub settled_refused : settled_of ts js order speed report ≡ record { jobs = js; left = cycles speed; cut = 0; lawful = false }
-    unfolding settled_of outcome_in at_tick_start
+    pub settled_refused : settled_of ts js order speed report ≡ None
+    unfolding settled_of outcome_in
     settled_refused = rw broken
 
     pub grants_stay : (grants : List ℕ) → granted_of ts js order speed report grants ≡ grants

@@ -9,6 +9,7 @@ use lib.Dec.{eqb, ltb}
 use lib.ListN.{length, get_or, set, get_or-eq_default}
 use lib.Seq.{get_or-set_other}
 use borrow.Author.Tests.{not-true}
+use Rattle.std.specs.Prelude.{Some, None}
 use Rattle.units.specs.declared.Cycles.{Cycles}
 use Rattle.units.specs.Units.{cycles}
 use Rattle.rules.specs.declared.Tasks.{Tasks}
@@ -27,7 +28,7 @@ use Rattle.choosing.proofs.Waiting.{First, ready_long, ready_waits, waiting_all,
 use Rattle.settlement.specs.declared.shares.Share.{Share}
 use Rattle.settlement.specs.Settled.{lawful_in}
 use Rattle.settlement.specs.Parts.{share_of, rest_zero}
-use Rattle.settlement.proofs.Steps.{stored, part_allowed, part_stored}
+use Rattle.settlement.proofs.Steps.{stored, share_none, part_allowed, part_stored}
 use Rattle.settlement.proofs.Spent.{Untouched, spent_allowed, spent_settled}
 use Rattle.settlement.proofs.Marks.{rest_is}
 
@@ -94,26 +95,27 @@ module _ (ts : Tasks) (report : List ℕ) (js : Jobs) (d : Dues) (speed : ℕ) w
       }
 
   module _ (w : Ready) (sofar : Settling) (g : Going ts report js d speed w sofar) where
-    -- one turn, with rule 4's part for the first job that waits: it goes on where the entry is allowed, and stops where not
-    module _ (i : ℕ) (first : First d w ts.count i) (part : Share) (shared : part ≡ share_of sofar.left.0 (get_or report i 0) (job_at ts sofar.jobs i)) where
-      pub going_on : part.allowed ≡ true → (run left : Cycles) (cut : ℕ) → run ≡ cycles ((job_at ts sofar.jobs i).run.0 + part.given.0) → left ≡ cycles (sofar.left.0 - part.given.0) → cut ≡ sofar.cut + cond part.cut 1 0 → Going ts report js d speed (record { at = set w.at i false }) (stored sofar i part run left cut)
+    -- one turn for the first job that waits: with rule 4's part it goes on, and with none it stops
+    module _ (i : ℕ) (first : First d w ts.count i) where
+      pub going_on : (part : Share) → share_of sofar.left.0 (get_or report i 0) (job_at ts sofar.jobs i) ≡ Some part → (cut : ℕ) → cut ≡ sofar.cut + cond part.cut 1 0
+          → Going ts report js d speed (record { at = set w.at i false }) (stored sofar i part (cycles ((job_at ts sofar.jobs i).run.0 + part.given.0)) (cycles (sofar.left.0 - part.given.0)) cut)
       unfolding all_allowed settle_all
-      going_on ok run left cut raised lowered counted =
+      going_on part shared cut counted =
           let u = get_or report i 0 in
-          let fine : allowed sofar.left.0 u (job_at ts sofar.jobs i) ≡ true = sym (part_allowed ts sofar i u part shared) ∙ ok in
-          let is : stored sofar i part run left cut ≡ settle_at ts i u sofar = part_stored ts sofar i u part shared run left cut raised lowered counted in
+          let fine : allowed sofar.left.0 u (job_at ts sofar.jobs i) ≡ true = part_allowed ts sofar i u part shared in
+          let is : stored sofar i part (cycles ((job_at ts sofar.jobs i).run.0 + part.given.0)) (cycles (sofar.left.0 - part.given.0)) cut ≡ settle_at ts i u sofar = part_stored ts sofar i u part shared cut counted in
           record {
             few = omega (arith, g.few, cut_one ts i u sofar, ap (λ (x : Settling). x.cut) is, ap length first.rest);
-            untouched = untouched_on w sofar i part run left cut g.untouched;
+            untouched = untouched_on w sofar i part (cycles ((job_at ts sofar.jobs i).run.0 + part.given.0)) (cycles (sofar.left.0 - part.given.0)) cut g.untouched;
             lawful = g.lawful ∙ rw (first.rest, fine, is);
             outcome = g.outcome ∙ rw (first.rest, is);
           }
 
-      pub going_stop : part.allowed ≡ false → lawful_in ts js (order_in d js ts.count) speed report ≡ false
+      pub going_stop : share_of sofar.left.0 (get_or report i 0) (job_at ts sofar.jobs i) ≡ None → lawful_in ts js (order_in d js ts.count) speed report ≡ false
       unfolding lawful_in all_allowed
       going_stop broken =
           and-false (over_entries_zero ts js report) (all_allowed ts report (order_in d js ts.count) (at_tick_start js speed))
-          (g.lawful ∙ rw (first.rest, sym (part_allowed ts sofar i (get_or report i 0) part shared) ∙ broken))
+          (g.lawful ∙ rw (first.rest, share_none sofar.left.0 (get_or report i 0) (job_at ts sofar.jobs i) broken))
 
     -- the end: nothing is left, or none waits any more
     module _ (long : length js.over ≡ most_tasks) where

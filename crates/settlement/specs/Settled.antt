@@ -1,5 +1,5 @@
 -- What a settlement answers, and what it writes to the grants list.
-use Rattle.std.specs.Prelude.{ℕ, Bool, cond, ◌&&◌, List, ltb, length, get_or}
+use Rattle.std.specs.Prelude.{ℕ, Bool, cond, ◌&&◌, Option, Some, None, List, ltb, length, get_or}
 use Rattle.units.specs.declared.Cycles.{Cycles}
 use Rattle.units.specs.Units.{cycles}
 use Rattle.rules.specs.declared.Tasks.{Tasks}
@@ -20,15 +20,11 @@ outcome_in ts js order speed report =
     let begun = at_tick_start js speed in
     cond (lawful_in ts js order speed report) (settle_all ts report order begun) begun
 
-unfoldable pub settled_of : Tasks → Jobs → List ℕ → ℕ → List ℕ → Settled
+-- The answer: what is settled; none where an entry breaks rule 4.
+unfoldable pub settled_of : Tasks → Jobs → List ℕ → ℕ → List ℕ → Option Settled
 settled_of ts js order speed report =
     let outcome = outcome_in ts js order speed report in
-    record {
-      jobs = outcome.jobs;
-      left = outcome.left;
-      cut = outcome.cut;
-      lawful = lawful_in ts js order speed report;
-    }
+    cond (lawful_in ts js order speed report) (Some (record { jobs = outcome.jobs; left = outcome.left; cut = outcome.cut })) None
 
 -- a list whose first 16 places hold each job's cycles, 0 where there is no job; past those it is as it was
 unfoldable pub paid : List Cycles → List ℕ → List ℕ

@@ -3,35 +3,75 @@
 
 mod entries;
 mod shares;
-mod turns;
 
 ghost use Rattle.std.specs.Prelude.{◌≡◌};
 ghost use Rattle.choosing.specs.Choosing.{order_in};
-ghost use Rattle.settlement.specs.Settled.{settled_of, granted_of};
+ghost use Rattle.settlement.specs.Settled.{settled_of, granted_of, paid};
 
-use rules::{Dues, Jobs, Tasks};
+use rules::{Dues, Job, Jobs, Tasks};
 use units::{Cycles, Speed};
 
-// A tick settled: the jobs after it, the cycles left, the jobs cut, and whether no entry breaks rule 4; where one breaks it, as at the tick's start.
-#[derive(Drop)]
+// A tick settled: the jobs after it, the cycles left, the jobs cut.
+#[derive(Clone, Copy, Debug, PartialEq, Eq)]
 pub struct Settled {
     pub jobs: Jobs,
     pub left: Cycles,
     pub cut: u64,
-    pub lawful: bool,
 }
 
-// The tick of these tasks and jobs at a speed, settled by a report, in the order of the deadlines; each job's cycles written to the grants list, unless an entry breaks rule 4.
+// The tick of these tasks and jobs at a speed, settled by a report in the order of the deadlines, with each job's cycles written to the grants list; none where an entry breaks rule 4, and the list is as it was.
+#[tactic(auto, using(choosing::proofs::Waiting::first_below))]
 pub fn settle(
-    tasks: Tasks,
+    tasks: &Tasks,
     jobs: Jobs,
-    dues: Dues,
+    dues: &Dues,
     speed: Speed,
     report: &[u64],
     grants: &mut [u64],
-) -> Settled
-    ensures { (result ≡ settled_of tasks jobs (order_in dues jobs tasks.count) speed.0 report.now)
-        × (grants.new ≡ granted_of tasks jobs (order_in dues jobs tasks.count) speed.0 report.now grants.old) }
+) -> Option<Settled>
+    ensures { (result ≡ settled_of tasks.now jobs (order_in dues.now jobs tasks.now.count) speed.0 report.now)
+        × (grants.new ≡ granted_of tasks.now jobs (order_in dues.now jobs tasks.now.count) speed.0 report.now grants.old) }
 {
-    turns::settle_waiting(tasks, jobs, dues, speed, report, grants)
+    let mut ready = choosing::ready_of(&jobs, tasks.count);
+    let mut after = jobs;
+    let mut given = [Cycles(0); 16];
+    let mut left = Cycles(speed.0);
+    let mut cut = 0;
+    // while cycles are left the earliest of the jobs that wait is settled, each in place
+    while 0 < left.0 {
+        let Some(i) = choosing::next_place(dues, &ready, tasks.count) else {
+            break;
+        };
+        let job = Job {
+            period: tasks.periods[i],
+            reserve: tasks.reserves[i],
+            run: after.run[i],
+            over: after.over[i],
+        };
+        let share = shares::share_out(left, entries::entry_at(report, i), job)?;
+        ready.at[i] = false;
+        after.run[i] = Cycles(job.run.0 + share.given.0);
+        after.over[i] = share.over;
+        given[i] = share.given;
+        left = Cycles(left.0 - share.given.0);
+        cut += u64::from(share.cut);
+    }
+    if !entries::rest_zero(jobs, ready, tasks.count, report) {
+        return None;
+    }
+    pay(given, grants);
+    Some(Settled {
+        jobs: after,
+        left,
+        cut,
+    })
+}
+
+// Each job's cycles written to the places, of at most 16, that the grants list has.
+fn pay(given: [Cycles; 16], grants: &mut [u64])
+    ensures { grants.new ≡ paid given grants.old }
+{
+    for i in 0..grants.len().min(16) {
+        grants[i] = given[i].0;
+    }
 }

@@ -1,6 +1,7 @@
 -- The tests of the code against soundness fact by fact: each holds for a sound state, and all of them make one.
 use mathlib.Core.Path.{◌≡◌, refl, sym, ap, ◌∙◌}
-use mathlib.Core.Bool.{Bool, true, false, false≢true, ◌&&◌}
+use Rattle.std.specs.Prelude.{Some, None, cond}
+use mathlib.Core.Bool.{Bool, true, false, ◌&&◌}
 use Prim.Native.Nat.{ℕ, ◌+◌, ◌-◌, ◌*◌, ◌≤◌, ◌<◌}
 use native.Mathlib.Omega.{arith}
 use lib.Dec.{leb}
@@ -29,8 +30,9 @@ use Rattle.rungs.specs.Rungs.{unused_rung, ladder_right, top_in}
 use Rattle.rungs.proofs.TopLaws.{top_is}
 use Rattle.tallies.specs.Tallies.{counted_within, tally_right}
 use Rattle.tallies.proofs.TallyLaws.{most_is}
-use Rattle.soundness.specs.Survey.{survey_of, unsound_survey}
-use Rattle.soundness.specs.Parts.{sums_to, tasks_right, great_test}
+use Rattle.soundness.specs.Survey.{survey_of}
+use Rattle.soundness.specs.declared.sums.Sums.{Sums}
+use Rattle.soundness.specs.Parts.{sums_to, summing, tasks_right, great_test}
 use Rattle.soundness.proofs.SumLaws.{period_in, reserve_in, run_in, jobs_decide}
 use Rattle.soundness.proofs.SumValues.{full_is, load_is, great_found, great_passes}
 
@@ -53,8 +55,7 @@ module _ (s : State) (f : Sound s) where
   pub tasks_hold : tasks_right s.tasks s.jobs ≡ true
   unfolding jobs_of jobs_past
   tasks_hold =
-      sym
-      (jobs_decide s.tasks s.jobs f.tasks_some f.tasks_most f.great_most (rest_all unused_job s.tasks.count most_tasks (job_at s.tasks s.jobs) f.unused_job_lem))
+      jobs_decide s.tasks s.jobs f.tasks_some f.tasks_most f.great_most (rest_all unused_job s.tasks.count most_tasks (job_at s.tasks s.jobs) f.unused_job_lem)
       ∙ up_to_all job_right s.tasks.count (job_at s.tasks s.jobs) job_holds
 
   -- the speed places past the count are unused
@@ -251,18 +252,68 @@ tests_facts s t =
       cut_most = tally_cut _ _ _ t.tally;
     }
 
--- what survey answers: for a state that a test refuses, and for one that all let through
-pub survey_refused : (s : State) → (Sound s → ⊥) → unsound_survey ≡ survey_of s
-unfolding survey_of
-survey_refused s n = go (sound s) refl
-  where
-    go : (b : Bool) → sound s ≡ b → unsound_survey ≡ survey_of s
-    go true e = absurd (n (sound_facts s e))
-    go false e = rw e
+-- the tests of the code are soundness
+module _ (s : State) where
+  abbrev made : Sums
+  made = sums_to s.tasks s.jobs s.tasks.count
 
-pub survey_failed : (s : State) (b : Bool) → (Sound s → b ≡ true) → b ≡ false → unsound_survey ≡ survey_of s
-survey_failed s b holds e = survey_refused s (λ f. false≢true (sym e ∙ holds f))
+  -- all but those of the task side, for these sums and this top speed
+  unfoldable pub rest_right : Sums → Speed → Bool
+  rest_right m top =
+      ladder_right s.ladder s.tally
+      && tally_right s.done s.tally top
+      && great_test m
+      && leb m.full.0 (top.0 * s.tasks.great.0)
 
-pub survey_passed : (s : State) → Tests s → (load : Cycles) → load ≡ (sums_to s.tasks s.jobs s.tasks.count).load → record { sound = true; load = load } ≡ survey_of s
-unfolding survey_of load_of
-survey_passed s t load e = rw (facts_sound s (tests_facts s t), e, ← load_is s.tasks s.jobs)
+  abbrev all_right : Bool
+  all_right = tasks_right s.tasks s.jobs && rest_right made (top_in s.ladder)
+
+  all_hold : Sound s → all_right ≡ true
+  unfolding rest_right
+  all_hold f = rw (tasks_hold s f, ladder_holds s f, tally_holds s f, great_holds s f, full_holds s f)
+
+  all_tests : all_right ≡ true → Tests s
+  unfolding rest_right
+  all_tests e =
+      let l = ladder_right s.ladder s.tally in
+      let t = tally_right s.done s.tally (top_in s.ladder) in
+      let g = great_test made in
+      let f = leb made.full.0 ((top_in s.ladder).0 * s.tasks.great.0) in
+      let four : (l && t && g && f) ≡ true = both_right (tasks_right s.tasks s.jobs) (l && t && g && f) e in
+      let three : (l && t && g) ≡ true = both_left (l && t && g) f four in
+      let two : (l && t) ≡ true = both_left (l && t) g three in
+      record {
+        tasks = both_left (tasks_right s.tasks s.jobs) (l && t && g && f) e;
+        ladder = both_left l t two;
+        tally = both_right l t two;
+        great = both_right (l && t) g three;
+        full = both_right (l && t && g) f four;
+      }
+
+  tests_are : sound s ≡ all_right
+  tests_are = go (sound s) all_right refl refl
+    where
+      go : (b t : Bool) → sound s ≡ b → all_right ≡ t → b ≡ t
+      go true true e a = refl
+      go false false e a = refl
+      go true false e a = sym (all_hold (sound_facts s e)) ∙ a
+      go false true e a = sym e ∙ facts_sound s (tests_facts s (all_tests a))
+
+  -- what survey answers: none where the task side is wrong, and else by the other tests
+  pub survey_none : None ≡ summing (tasks_right s.tasks s.jobs) s.tasks s.jobs → survey_of s ≡ None
+  unfolding survey_of summing
+  survey_none = go (tasks_right s.tasks s.jobs) refl
+    where
+      go : (b : Bool) → tasks_right s.tasks s.jobs ≡ b → None ≡ cond b (Some made) None → survey_of s ≡ None
+      go true r e = cc
+      go false r e = rw (tests_are, r)
+
+  pub survey_by : (m : Sums) (top : Speed) → Some m ≡ summing (tasks_right s.tasks s.jobs) s.tasks s.jobs → top ≡ top_in s.ladder → survey_of s ≡ cond (rest_right m top) (Some m.load) None
+  unfolding survey_of load_of summing
+  survey_by m top e t = go (tasks_right s.tasks s.jobs) refl e
+    where
+      go : (b : Bool) → tasks_right s.tasks s.jobs ≡ b → Some m ≡ cond b (Some made) None → survey_of s ≡ cond (rest_right m top) (Some m.load) None
+      go true r e =
+          let q : m ≡ made = cc in
+          rw (t, q, tests_are, r, ← load_is s.tasks s.jobs)
+      go false r e = cc

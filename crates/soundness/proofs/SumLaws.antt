@@ -1,37 +1,50 @@
--- The sums over the first tasks stay small: at most 16 terms, each at most 10 ^ 9 x 10 ^ 6.
-use mathlib.Core.Path.{◌≡◌, refl, sym, ap, ap₂, ◌∙◌}
-use mathlib.Core.Bool.{Bool, true, false, false≢true, ◌&&◌}
+-- The walk over the tasks, and that the sums over the first of them stay small: at most 16 terms, each at most 10 ^ 9 x 10 ^ 6.
+use mathlib.Core.Path.{◌≡◌, sym, ap₂, ◌∙◌}
+use mathlib.Core.Bool.{Bool, true, false, ◌&&◌}
 use Prim.Native.Nat.{ℕ, ◌+◌, ◌*◌, ◌/◌, ◌≤◌, ◌<◌}
 use native.Mathlib.Nat.{le_trans}
 use native.Mathlib.Numerals.{add-one}
 use native.Mathlib.Omega.{arith}
 use borrow.Author.Tests.{le-leb, lt-leb}
+use Rattle.divisors.specs.Divisors.{IsGcd, gcd_of}
+use Rattle.divisors.proofs.DivisorLaws.{gcd_is, gcd_one}
+use Rattle.divisors.proofs.Quotients.{common_one}
+use Rattle.units.specs.Units.{ticks, cycles}
 use Rattle.units.specs.declared.Ticks.{Ticks}
 use Rattle.rules.specs.declared.Tasks.{Tasks}
 use Rattle.rules.specs.declared.Jobs.{Jobs}
 use Rattle.rules.specs.declared.Job.{Job}
-use Rattle.rules.specs.Words.{every}
+use Rattle.rules.specs.Words.{every, up_to}
 use Rattle.rules.specs.Limits.{most_tasks, most_period, most_reserve, most_great, most_term, up_to_most}
 use Rattle.rules.specs.State.{job_at, jobs_of}
 use Rattle.rules.specs.Load.{use_of}
 use Rattle.rules.specs.Numbers.{unused_job, run_right}
+use lib.ListN.{drop}
+use Rattle.rules.proofs.WalkLaws.{walk_on, walk_stop, walk_end}
 use Rattle.rules.proofs.Lists.{both_left, both_right}
 use Rattle.rules.proofs.Loads.{use_most, term_most}
 use Rattle.rules.proofs.Ranges.{in_range, too_low, too_high, range_from, range_to}
 use Rattle.places.specs.Places.{job_right, jobs_past}
 use Rattle.soundness.specs.declared.sums.Sums.{Sums}
-use Rattle.soundness.specs.declared.sums.Summing.{Summing}
-use Rattle.soundness.specs.declared.sums.Summing.TheVariants.{Made, Wrong}
-use Rattle.soundness.specs.Parts.{no_sums, with_job, sums_to, summing, tasks_right, Within, Room}
+use Rattle.soundness.specs.Parts.{no_sums, with_job, sums_to, tasks_right, Within, Room}
 
--- the two answers apart
-is_made : Summing → Bool
-is_made (Made s) = true
-is_made Wrong = false
+-- the greatest common divisor of 1 and any number, and of two numbers
+pub common_stays : (c t : ℕ) → c ≡ 1 → gcd_of c t ≡ 1
+common_stays c t e = rw e (common_one t)
 
-sums_in : Summing → Sums
-sums_in (Made s) = s
-sums_in Wrong = no_sums
+pub common_is : (a b d : ℕ) → IsGcd a b d → gcd_of a b ≡ d
+common_is a b d g = gcd_one (gcd_is a b) g
+
+-- a walk over the places from `i` on, whose answer is the whole test's: it stops at a place that fails, goes on past one that passes, or ends
+module _ (q : Job → Bool) (n i : ℕ) (f : ℕ → Job) (whole : Bool) (rest : whole ≡ every q (drop i (up_to n f))) where
+  pub stopped : i < n → (r : Bool) → r ≡ q (f i) → r ≡ false → false ≡ whole
+  stopped l r e t = sym (rest ∙ walk_stop q n f i l (sym e ∙ t))
+
+  pub gone_on : i < n → (r : Bool) → r ≡ q (f i) → r ≡ true → whole ≡ every q (drop (i + 1) (up_to n f))
+  gone_on l r e t = rest ∙ walk_on q n f i l (sym e ∙ t)
+
+  pub ended : n ≤ i → true ≡ whole
+  ended l = sym (rest ∙ walk_end q n f i l)
 
 -- what a task that is right has
 module _ (j : Job) (e : job_right j ≡ true) where
@@ -70,6 +83,12 @@ module _ (ts : Tasks) (js : Jobs) where
   sums_on i s r j a b e = rw add-one (e ∙ ap₂ (with_job ts.great) a b)
 
 -- no task, one task more that is right, and the room for it
+pub none_is : (m : Sums) → m.full.0 ≡ 0 → m.load.0 ≡ 0 → m.common ≡ 0 → m.rest.0 ≡ 0 → m ≡ no_sums
+unfolding no_sums
+none_is m a b c d =
+    let made : ℕ → ℕ → ℕ → ℕ → Sums = λ f l g r. record { full = cycles f; load = cycles l; common = g; rest = ticks r } in
+    ap₂ (λ (f l : ℕ). made f l m.common m.rest.0) a b ∙ ap₂ (λ (g r : ℕ). made 0 0 g r) c d
+
 pub none_within : Within 0 no_sums
 unfolding no_sums
 none_within = record { full = omega arith; load = omega arith; rest = omega arith }
@@ -94,51 +113,26 @@ module _ (n : ℕ) (s : Sums) (j : Job) (great : Ticks) (w : Within n s) (right 
         right = right;
       }
 
--- the sums by the test that they stand under, and the test by what came of it
-module _ (ts : Tasks) (js : Jobs) where
-  pub told_wrong : {test : Bool} → false ≡ test → Wrong ≡ summing test ts js
-  unfolding summing
-  told_wrong e = rw (← e)
-
-  pub told_made : {test : Bool} {s : Sums} → true ≡ test → s ≡ sums_to ts js ts.count → Made s ≡ summing test ts js
-  unfolding summing
-  told_made e a = rw (← e, a)
-
-  pub wrong_test : (test : Bool) → Wrong ≡ summing test ts js → test ≡ false
-  unfolding summing is_made
-  wrong_test true e = sym (ap is_made e)
-  wrong_test false e = refl
-
-  pub made_test : (test : Bool) (s : Sums) → Made s ≡ summing test ts js → test ≡ true
-  unfolding summing is_made
-  made_test true s e = refl
-  made_test false s e = sym (ap is_made e)
-
-  pub made_sums : (test : Bool) (s : Sums) → Made s ≡ summing test ts js → s ≡ sums_to ts js ts.count
-  unfolding summing is_made sums_in
-  made_sums true s e = ap sums_in e
-  made_sums false s e = absurd (false≢true (sym (ap is_made e)))
-
 -- the whole task side, test by test
 module _ (ts : Tasks) (js : Jobs) where
-  pub no_task : ts.count < 1 → false ≡ tasks_right ts js
+  pub no_task : ts.count < 1 → tasks_right ts js ≡ false
   unfolding tasks_right
   no_task l = rw (too_low most_tasks ts.count l)
 
-  pub many_tasks : 1 ≤ ts.count → most_tasks < ts.count → false ≡ tasks_right ts js
+  pub many_tasks : 1 ≤ ts.count → most_tasks < ts.count → tasks_right ts js ≡ false
   unfolding tasks_right
   many_tasks a h = rw (too_high most_tasks ts.count a h)
 
   module _ (some : 1 ≤ ts.count) (few : ts.count ≤ most_tasks) where
-    pub great_large : most_great < ts.great.0 → false ≡ tasks_right ts js
+    pub great_large : most_great < ts.great.0 → tasks_right ts js ≡ false
     unfolding tasks_right
     great_large h = rw (in_range most_tasks ts.count some few, lt-leb ts.great.0 most_great h)
 
     module _ (small : ts.great.0 ≤ most_great) where
-      pub rest_used : every unused_job (jobs_past ts js) ≡ false → false ≡ tasks_right ts js
+      pub rest_used : every unused_job (jobs_past ts js) ≡ false → tasks_right ts js ≡ false
       unfolding tasks_right
       rest_used u = rw (in_range most_tasks ts.count some few, le-leb ts.great.0 most_great small, u)
 
-      pub jobs_decide : every unused_job (jobs_past ts js) ≡ true → every job_right (jobs_of ts js) ≡ tasks_right ts js
+      pub jobs_decide : every unused_job (jobs_past ts js) ≡ true → tasks_right ts js ≡ every job_right (jobs_of ts js)
       unfolding tasks_right
       jobs_decide u = rw (in_range most_tasks ts.count some few, le-leb ts.great.0 most_great small, u)

@@ -1,5 +1,5 @@
 -- What the private functions of soundness answer and ask: nothing here is part of what it promises to callers.
-use Rattle.std.specs.Prelude.{ℕ, zero, suc, ◌+◌, ◌-◌, ◌*◌, ◌/◌, ◌≤◌, ◌≡◌, Bool, true, cond, ◌&&◌, eqb, leb}
+use Rattle.std.specs.Prelude.{ℕ, zero, suc, ◌+◌, ◌-◌, ◌*◌, ◌/◌, ◌≤◌, ◌≡◌, Bool, true, cond, ◌&&◌, eqb, leb, Option, Some, None}
 use Rattle.divisors.specs.Divisors.{gcd_of}
 use Rattle.units.specs.Units.{ticks, cycles}
 use Rattle.units.specs.declared.Ticks.{Ticks}
@@ -13,8 +13,6 @@ use Rattle.rules.specs.Load.{use_of}
 use Rattle.rules.specs.Numbers.{unused_job}
 use Rattle.places.specs.Places.{job_right, jobs_past}
 use Rattle.soundness.specs.declared.sums.Sums.{Sums}
-use Rattle.soundness.specs.declared.sums.Summing.{Summing}
-use Rattle.soundness.specs.declared.sums.Summing.TheVariants.{Made, Wrong}
 
 -- the sums of no task, with one task more, and of the first n tasks
 unfoldable pub no_sums : Sums
@@ -39,8 +37,8 @@ unfoldable pub great_test : Sums → Bool
 great_test s = eqb s.rest.0 0 && eqb s.common 1
 
 -- the sums of all tasks where a test holds
-unfoldable pub summing : Bool → Tasks → Jobs → Summing
-summing test ts js = cond test (Made (sums_to ts js ts.count)) Wrong
+unfoldable pub summing : Bool → Tasks → Jobs → Option Sums
+summing test ts js = cond test (Some (sums_to ts js ts.count)) None
 
 -- No. 1 and 7, unused places are zero, and each task is right
 unfoldable pub tasks_right : Tasks → Jobs → Bool

@@ -5,54 +5,31 @@ mod sums;
 
 ghost use Rattle.std.specs.Prelude.{◌≡◌};
 ghost use Rattle.rules.specs.State.{state_from};
-ghost use Rattle.soundness.specs.Survey.{survey_of, unsound_survey};
+ghost use Rattle.soundness.specs.Survey.{survey_of};
 
 use rules::{Jobs, Ladder, Tally, Tasks};
-use sums::Summing;
 use units::{Cycles, Ticks};
 
-// Whether a state is sound, and its load where it is.
-#[derive(Drop)]
-pub struct Surveyed {
-    pub sound: bool,
-    pub load: Cycles,
-}
-
-// Whether the state of these parts is sound, clause by clause, and the sum of use x (H / P) where it is.
-pub fn survey(done: Ticks, tasks: Tasks, jobs: Jobs, ladder: Ladder, tally: Tally) -> Surveyed
-    ensures { result ≡ survey_of (state_from done tasks jobs ladder tally) }
+// The sum of use x (H / P) of the state of these parts where it is sound, clause by clause; none where it is not.
+// Stays: the parts of a state, lent, and not the state: the boundary has its jobs in bytes, and a whole state made of them takes a tick above its 4,096 bytes of stack.
+pub fn survey(
+    done: Ticks,
+    tasks: &Tasks,
+    jobs: &Jobs,
+    ladder: &Ladder,
+    tally: &Tally,
+) -> Option<Cycles>
+    ensures { result ≡ survey_of (state_from done tasks.now jobs.now ladder.now tally.now) }
 {
-    let Summing::Made(made) = sums::task_sums(tasks, jobs) else {
-        return unsound();
-    };
-    if !rungs::ladder_right(ladder, tally) {
-        return unsound();
-    }
+    let sums = sums::task_sums(tasks, jobs)?;
     let top = rungs::top_of(ladder);
-    if !tallies::tally_right(done, tally, top) {
-        return unsound();
-    }
-    if !sums::great_right(made) {
-        return unsound();
-    }
-    let great = tasks.great;
-    let full = made.full;
-    if !units::carries(top, great, full) {
-        return unsound();
-    }
-    let load = made.load;
-    Surveyed {
-        sound: true,
-        load: load,
-    }
-}
-
-// An unsound state: no load is told.
-fn unsound() -> Surveyed
-    ensures { result ≡ unsound_survey }
-{
-    Surveyed {
-        sound: false,
-        load: Cycles(0),
+    if rungs::ladder_right(ladder, tally)
+        && tallies::tally_right(done, tally, top)
+        && sums::great_right(sums)
+        && units::carries(top, tasks.great, sums.full)
+    {
+        Some(sums.load)
+    } else {
+        None
     }
 }

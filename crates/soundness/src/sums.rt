@@ -12,7 +12,7 @@ use rules::{Job, Jobs, Tasks};
 use units::{Cycles, Ticks};
 
 // The sum of reserve x (H / P), the sum of use x (H / P), the greatest common divisor of all H / P, and the sum of what each P leaves of H.
-#[derive(Clone, Copy)]
+#[derive(Clone, Copy, Default)]
 pub(crate) struct Sums {
     pub(crate) full: Cycles,
     pub(crate) load: Cycles,
@@ -20,108 +20,74 @@ pub(crate) struct Sums {
     pub(crate) rest: Ticks,
 }
 
-// The sums of tasks that are all right, or a task that is not.
-#[derive(Drop)]
-pub(crate) enum Summing {
-    Made(Sums),
-    Wrong,
-}
-
 // Rule 2: a job's use is its reserve until it is over, and then the cycles it ran.
+#[tactic(auto, unfolding(rules::specs::Load::use_of))]
 pub(crate) fn use_of(job: Job) -> Cycles
     ensures { result ≡ cycles (use_of job) }
 {
-    let run = job.run;
-    let reserve = job.reserve;
-    if job.over {
-        return run;
-    }
-    reserve
+    if job.over { job.run } else { job.reserve }
 }
 
 // The greatest common divisor with one number more; 1 stays 1.
+#[tactic(auto, using(crate::proofs::SumLaws::common_stays, crate::proofs::SumLaws::common_is))]
 pub(crate) fn common_with(common: u64, times: u64) -> u64
     ensures { result ≡ gcd_of common times }
 {
     if common == 1 {
-        return 1;
+        1
+    } else {
+        divisors::gcd(common, times)
     }
-    divisors::gcd(common, times)
 }
 
 // One task more.
+#[tactic(auto, using(crate::proofs::SumLaws::period_some, crate::proofs::SumLaws::full_term, crate::proofs::SumLaws::load_term), unfolding(crate::specs::Parts::with_job))]
 pub(crate) fn with_job(sums: Sums, job: Job, great: Ticks) -> Sums
     requires { Room sums job great }
     ensures { result ≡ with_job great sums job }
 {
-    let period = job.period;
-    let reserve = job.reserve;
-    let times = great.0 / period.0;
+    let times = great.0 / job.period.0;
     let used = use_of(job);
-    let full = sums.full;
-    let load = sums.load;
-    let rest = sums.rest;
     Sums {
-        full: Cycles(full.0 + reserve.0 * times),
-        load: Cycles(load.0 + used.0 * times),
+        full: Cycles(sums.full.0 + job.reserve.0 * times),
+        load: Cycles(sums.load.0 + used.0 * times),
         common: common_with(sums.common, times),
-        rest: Ticks(rest.0 + (great.0 - times * period.0)),
+        rest: Ticks(sums.rest.0 + (great.0 - times * job.period.0)),
     }
 }
 
-// The sums over all tasks, each task tested first; or a task that is not right.
-pub(crate) fn sums_of(tasks: Tasks, jobs: Jobs) -> Summing
-    requires { Small tasks }
-    ensures { result ≡ summing (every job_right (jobs_of tasks jobs)) tasks jobs }
+// The sums over all tasks, each task tested first; none where a task is not right.
+pub(crate) fn sums_of(tasks: &Tasks, jobs: &Jobs) -> Option<Sums>
+    requires { Small tasks.now }
+    ensures { result ≡ summing (every job_right (jobs_of tasks.now jobs.now)) tasks.now jobs.now }
 {
-    let periods = tasks.periods;
-    let reserves = tasks.reserves;
-    let run = jobs.run;
-    let over = jobs.over;
-    let count = tasks.count;
-    let great = tasks.great;
-    let mut sums = Sums {
-        full: Cycles(0),
-        load: Cycles(0),
-        common: 0,
-        rest: Ticks(0),
-    };
-    let mut i = 0;
-    while i < count {
+    let mut sums = Sums::default();
+    for i in 0..tasks.count {
         let job = Job {
-            period: periods[i],
-            reserve: reserves[i],
-            run: run[i],
-            over: over[i],
+            period: tasks.periods[i],
+            reserve: tasks.reserves[i],
+            run: jobs.run[i],
+            over: jobs.over[i],
         };
         if !places::job_right(job) {
-            return Summing::Wrong;
+            return None;
         }
-        let next = with_job(sums, job, great);
-        sums = next;
-        i += 1;
+        sums = with_job(sums, job, tasks.great);
     }
-    Summing::Made(sums)
+    Some(sums)
 }
 
 // No. 1, 3, 4 and 7, the runs of the current jobs, and zeros past them: the sums of a task side that is right.
-#[tactic(auto, using(crate::proofs::SumLaws::told_wrong, crate::proofs::SumLaws::no_task, crate::proofs::SumLaws::many_tasks, crate::proofs::SumLaws::great_large, crate::proofs::SumLaws::rest_used, crate::proofs::SumLaws::jobs_decide))]
-pub(crate) fn task_sums(tasks: Tasks, jobs: Jobs) -> Summing
-    ensures { result ≡ summing (tasks_right tasks jobs) tasks jobs }
+#[tactic(auto, using(crate::proofs::SumLaws::no_task, crate::proofs::SumLaws::many_tasks, crate::proofs::SumLaws::great_large, crate::proofs::SumLaws::rest_used, crate::proofs::SumLaws::jobs_decide), unfolding(crate::specs::Parts::summing))]
+pub(crate) fn task_sums(tasks: &Tasks, jobs: &Jobs) -> Option<Sums>
+    ensures { result ≡ summing (tasks_right tasks.now jobs.now) tasks.now jobs.now }
 {
-    let count = tasks.count;
-    if count < 1 {
-        return Summing::Wrong;
-    }
-    if count > 16 {
-        return Summing::Wrong;
-    }
-    let great = tasks.great;
-    if great.0 > 1000000 {
-        return Summing::Wrong;
-    }
-    if !places::rest_unused(tasks, jobs) {
-        return Summing::Wrong;
+    if tasks.count < 1
+        || tasks.count > 16
+        || tasks.great.0 > 1000000
+        || !places::rest_unused(tasks, jobs)
+    {
+        return None;
     }
     sums_of(tasks, jobs)
 }
@@ -131,9 +97,5 @@ pub(crate) fn task_sums(tasks: Tasks, jobs: Jobs) -> Summing
 pub(crate) fn great_right(sums: Sums) -> bool
     ensures { result ≡ great_test sums }
 {
-    let rest = sums.rest;
-    if rest.0 != 0 {
-        return false;
-    }
-    sums.common == 1
+    sums.rest == Ticks(0) && sums.common == 1
 }

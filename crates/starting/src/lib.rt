@@ -4,23 +4,21 @@
 mod tables;
 
 ghost use Rattle.std.specs.Prelude.{◌≡◌};
-ghost use Rattle.rules.specs.Calls.{start_of};
+ghost use Rattle.rules.specs.Calls.{start_of, started_by};
 
-use rules::Started;
+use refusals::Refusal;
+use rules::State;
 
-// start: from lent lists of periods, reserves, speeds and volts to 0 and the fresh state, or to the smallest number of 1 to 8 that applies and the all-zero state.
-pub fn start(periods: &[u64], reserves: &[u64], speeds: &[u64], volts: &[u64]) -> Started
-    ensures { result ≡ start_of periods.now reserves.now speeds.now volts.now }
+// start: from lent lists of periods, reserves, speeds and volts to the fresh state, or to the refusal of the smallest number of 1 to 8 that applies.
+pub fn start(
+    periods: &[u64],
+    reserves: &[u64],
+    speeds: &[u64],
+    volts: &[u64],
+) -> Result<State, Refusal>
+    ensures { started_by result ≡ start_of periods.now reserves.now speeds.now volts.now }
 {
-    let verdict = admission::judge(periods, reserves, speeds, volts);
-    let number = verdict.number;
-    if number != 0 {
-        return tables::refused(number);
-    }
-    let tasks = tables::tasks_from(verdict.great, periods, reserves);
-    let ladder = tables::ladder_from(speeds, volts);
-    Started {
-        number: 0,
-        state: tables::fresh(tasks, ladder),
-    }
+    let great = admission::judge(periods, reserves, speeds, volts)?;
+    let tasks = tables::tasks_from(great, periods, reserves);
+    Ok(tables::fresh(tasks, tables::ladder_from(speeds, volts)))
 }

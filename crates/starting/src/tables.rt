@@ -1,50 +1,38 @@
-// States from tables: the lists laid into arrays, the fresh state and the all-zero one.
-ghost use Rattle.std.specs.Prelude.{◌≡◌, ◌≤◌, length};
-ghost use Rattle.rules.specs.Limits.{most_tasks, most_speeds};
+// States from tables: the lists laid into arrays, and the fresh state.
+ghost use Rattle.std.specs.Prelude.{◌≡◌, get_or};
 ghost use Rattle.rules.specs.Calls.{tasks_from, ladder_from, fresh_state};
-ghost use Rattle.starting.specs.Refusal.{refusal};
 
-use rules::{Jobs, Ladder, Started, State, Tally, Tasks};
+use rules::{Ladder, State, Tasks};
+use std::array;
 use units::{Cycles, Speed, Ticks, Volts};
+
+// The number at a place of a list, and 0 past its end.
+fn number_at(list: &[u64], i: usize) -> u64
+    ensures { result ≡ get_or list.now i 0 }
+{
+    list.get(i).copied().unwrap_or(0)
+}
 
 // The task side of a table, zero past the last task.
 pub(crate) fn tasks_from(great: Ticks, periods: &[u64], reserves: &[u64]) -> Tasks
-    requires { (length periods.now ≤ most_tasks) × (length reserves.now ≡ length periods.now) }
     ensures { result ≡ tasks_from great.0 periods.now reserves.now }
 {
-    let mut ps = [Ticks(0); 16];
-    let mut cs = [Cycles(0); 16];
-    let mut i = 0;
-    while i < periods.len() {
-        ps[i] = Ticks(periods[i]);
-        cs[i] = Cycles(reserves[i]);
-        i += 1;
-    }
     Tasks {
-        count: i,
-        great: great,
-        periods: ps,
-        reserves: cs,
+        count: periods.len(),
+        great,
+        periods: array::from_fn(|i| Ticks(number_at(periods, i))),
+        reserves: array::from_fn(|i| Cycles(number_at(reserves, i))),
     }
 }
 
 // The speed side of a table, zero past the last speed.
 pub(crate) fn ladder_from(speeds: &[u64], volts: &[u64]) -> Ladder
-    requires { (length speeds.now ≤ most_speeds) × (length volts.now ≡ length speeds.now) }
     ensures { result ≡ ladder_from speeds.now volts.now }
 {
-    let mut ss = [Speed(0); 8];
-    let mut vs = [Volts(0); 8];
-    let mut i = 0;
-    while i < speeds.len() {
-        ss[i] = Speed(speeds[i]);
-        vs[i] = Volts(volts[i]);
-        i += 1;
-    }
     Ladder {
-        count: i,
-        speeds: ss,
-        volts: vs,
+        count: speeds.len(),
+        speeds: array::from_fn(|i| Speed(number_at(speeds, i))),
+        volts: array::from_fn(|i| Volts(number_at(volts, i))),
     }
 }
 
@@ -52,42 +40,9 @@ pub(crate) fn ladder_from(speeds: &[u64], volts: &[u64]) -> Ladder
 pub(crate) fn fresh(tasks: Tasks, ladder: Ladder) -> State
     ensures { result ≡ fresh_state tasks ladder }
 {
-    let jobs = Jobs {
-        run: [Cycles(0); 16],
-        over: [false; 16],
-    };
-    let tally = Tally {
-        counts: [Cycles(0); 8],
-        idle: Cycles(0),
-        late: 0,
-        cut: 0,
-    };
     State {
-        done: Ticks(0),
-        tasks: tasks,
-        jobs: jobs,
-        ladder: ladder,
-        tally: tally,
-    }
-}
-
-// A refused start: its number and the all-zero state, that of no table.
-pub(crate) fn refused(number: u64) -> Started
-    ensures { result ≡ refusal number }
-{
-    let tasks = Tasks {
-        count: 0,
-        great: Ticks(0),
-        periods: [Ticks(0); 16],
-        reserves: [Cycles(0); 16],
-    };
-    let ladder = Ladder {
-        count: 0,
-        speeds: [Speed(0); 8],
-        volts: [Volts(0); 8],
-    };
-    Started {
-        number: number,
-        state: fresh(tasks, ladder),
+        tasks,
+        ladder,
+        ..State::default()
     }
 }

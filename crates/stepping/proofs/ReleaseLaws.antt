@@ -71,11 +71,11 @@ pub same_parts : (jobs jobs₁ : Jobs) (tally tally₁ : Tally) → jobs ≡ job
 same_parts jobs jobs₁ tally tally₁ j t = rw (j, t)
 
 -- what a tick changes, from its counts and its releases
-module _ (done : Ticks) (ts : Tasks) (tally : Tally) (place granted : ℕ) (settled : Settled) (counts : Tally) (counted : counts ≡ counted_by tally place granted settled.left.0 settled.cut) where
+module _ (done : Ticks) (ts : Tasks) (tally : Tally) (place granted : ℕ) (settled : Settled) (counts : Tally) (is : counts ≡ counted_by tally place granted settled.left.0 settled.cut) where
   pub late_is : counts.late ≡ tally.late
   unfolding counted_by
-  late_is = ap (λ (t : Tally). t.late) counted
+  late_is = ap (λ (t : Tally). t.late) is
 
-  pub after_is : (fresh : Releasing) (after : Tally) → fresh ≡ releases ts (done.0 + 1) ts.count (record { jobs = settled.jobs; late = counts.late }) → after ≡ with_late counts fresh.late → record { number = 0; done = ticks (done.0 + 1); jobs = fresh.jobs; tally = after } ≡ after_of done ts tally place granted settled
+  pub after_is : (fresh : Releasing) (after : Tally) → fresh ≡ releases ts (done.0 + 1) ts.count (record { jobs = settled.jobs; late = counts.late }) → after ≡ with_late counts fresh.late → record { done = ticks (done.0 + 1); jobs = fresh.jobs; tally = after } ≡ after_of done ts tally place granted settled
   unfolding after_of
-  after_is fresh after e a = rw (a, e, counted)
+  after_is fresh after e a = rw (a, e, is)

@@ -1,37 +1,30 @@
 -- What the private functions of a tick ask and answer: nothing here is part of what this crate promises to callers.
-use Rattle.std.specs.Prelude.{ℕ, zero, suc, ◌+◌, ◌%◌, ◌≤◌, ◌<◌, ◌≡◌, Bool, true, false, cond, not, ◌&&◌, List, [], ◌∷◌, eqb, leb, length, get_or, set}
+use Rattle.std.specs.Prelude.{ℕ, zero, suc, ◌+◌, ◌%◌, ◌≤◌, ◌<◌, ◌≡◌, true, false, cond, not, ◌&&◌, List, Result, Ok, Err, eqb, length, get_or, set}
 use Rattle.units.specs.Units.{ticks, cycles, most_count}
 use Rattle.units.specs.declared.Ticks.{Ticks}
 use Rattle.units.specs.declared.Cycles.{Cycles}
 use Rattle.units.specs.declared.Speed.{Speed}
 use Rattle.rules.specs.declared.Tasks.{Tasks}
-use Rattle.rules.specs.declared.Jobs.{Jobs}
 use Rattle.rules.specs.declared.Tally.{Tally}
 use Rattle.rules.specs.declared.Dues.{Dues}
 use Rattle.rules.specs.declared.Releasing.{Releasing}
 use Rattle.rules.specs.declared.State.{State}
-use Rattle.rules.specs.Words.{first_of}
 use Rattle.rules.specs.Limits.{most_tasks, most_speeds, most_ticks}
 use Rattle.rules.specs.State.{period_at, count_at, put_at}
-use Rattle.rules.specs.Choice.{speed_place}
+use Rattle.refusals.specs.declared.Refusal.{Refusal}
+use Rattle.refusals.specs.declared.Refusal.TheVariants.{Unsound, RunDone, Length}
+use Rattle.rules.specs.Choice.{load_of, speed_place}
 use Rattle.rules.specs.Counting.{releases}
-use Rattle.rules.specs.Numbers.{sound}
+use Rattle.rules.specs.Numbers.{sound, all_done}
 use Rattle.settlement.specs.declared.Settled.{Settled}
 use Rattle.stepping.specs.declared.Stepped.{Stepped}
 
--- the rows 9 to 12 of a tick, by the tests that they make
-unfoldable pub refusal_of : Bool → ℕ → ℕ → ℕ → ℕ → Bool → ℕ
-refusal_of isSound done count reported granted carried =
-    first_of
-    ((not isSound, 9)
-    ∷ (leb most_ticks done, 10)
-    ∷ (not (eqb reported count && eqb granted count), 11)
-    ∷ (not carried, 12)
-    ∷ [])
-
--- a refused tick: its number, and all as it was
-abbrev pub unstepped_as : ℕ → Ticks → Jobs → Tally → Stepped
-unstepped_as n done js tally = record { number = n; done = done; jobs = js; tally = tally }
+-- the load of a state, or the rows 9 to 11 of a tick by lists of so many places
+unfoldable pub row_load : State → ℕ → ℕ → Result Cycles Refusal
+row_load s reported granted =
+    cond (not (sound s)) (Err Unsound)
+    (cond (all_done s) (Err RunDone)
+    (cond (not (eqb reported s.tasks.count && eqb granted s.tasks.count)) (Err Length) (Ok (cycles (load_of s)))))
 
 -- rule 5's sums stay in their range
 pub record Countable (tally : Tally) (place : ℕ) (speed : Speed) (left : Cycles) (cut : ℕ) : Type 0 where
@@ -84,7 +77,6 @@ after_of done ts tally place granted settled =
     let counts = counted_by tally place granted settled.left.0 settled.cut in
     let r = releases ts t ts.count (record { jobs = settled.jobs; late = counts.late }) in
     record {
-      number = 0;
       done = ticks t;
       jobs = r.jobs;
       tally = record { counts = counts.counts; idle = counts.idle; late = r.late; cut = counts.cut };

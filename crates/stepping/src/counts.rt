@@ -6,21 +6,14 @@ use rules::Tally;
 use units::{Cycles, Speed};
 
 // Rule 5: the counts with a tick's: what was granted, all of its speed but what is left, at the place of that, the rest idle, the jobs cut.
+#[tactic(auto, unfolding(crate::specs::Parts::counted_by, rules::specs::State::count_at))]
 pub(crate) fn count_tick(tally: Tally, place: usize, speed: Speed, left: Cycles, cut: u64) -> Tally
     requires { Countable tally place speed left cut }
     ensures { result ≡ counted_by tally place (speed.0 - left.0) left.0 cut }
 {
-    let mut counts = tally.counts;
-    let idle = tally.idle;
-    let whole = speed.0;
-    let rest = left.0;
-    let granted = whole - rest;
-    let before = counts[place];
-    counts[place] = Cycles(before.0 + granted);
-    Tally {
-        counts: counts,
-        idle: Cycles(idle.0 + rest),
-        late: tally.late,
-        cut: tally.cut + cut,
-    }
+    let mut counted = tally;
+    counted.counts[place].0 += speed.0 - left.0;
+    counted.idle.0 += left.0;
+    counted.cut += cut;
+    counted
 }

@@ -10,36 +10,31 @@ use units::{Cycles, Speed, Ticks};
 // Rule 5: what a tick at the speed of a place changes, with its deadlines and what its settlement came to. Each task whose period divides the new tick is released, those whose deadline it is: a job not over is counted as late and dropped, the new one has run 0.
 pub(crate) fn after(
     done: Ticks,
-    tasks: Tasks,
-    tally: Tally,
+    tasks: &Tasks,
+    tally: &Tally,
     place: usize,
     speed: Speed,
-    dues: Dues,
-    settled: Settled,
+    dues: &Dues,
+    settled: &Settled,
 ) -> Stepped
-    requires { Steps done tasks tally place speed dues settled }
-    ensures { result ≡ after_of done tasks tally place (speed.0 - settled.left.0) settled }
+    requires { Steps done tasks.now tally.now place speed dues.now settled.now }
+    ensures { result ≡ after_of done tasks.now tally.now place (speed.0 - settled.now.left.0) settled.now }
 {
-    let n = tasks.count;
     let next = Ticks(done.0 + 1);
-    let mut counted = counts::count_tick(tally, place, speed, settled.left, settled.cut);
+    let mut tally = counts::count_tick(*tally, place, speed, settled.left, settled.cut);
     let mut jobs = settled.jobs;
-    let mut i = 0;
-    while i < n {
-        let due = dues.at[i];
-        if due.0 == next.0 {
+    for i in 0..tasks.count {
+        if dues.at[i] == next {
             if !jobs.over[i] {
-                counted.late += 1;
+                tally.late += 1;
             }
             jobs.run[i] = Cycles(0);
             jobs.over[i] = false;
         }
-        i += 1;
     }
     Stepped {
-        number: 0,
         done: next,
-        jobs: jobs,
-        tally: counted,
+        jobs,
+        tally,
     }
 }

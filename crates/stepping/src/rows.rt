@@ -1,48 +1,35 @@
-// The refusals of a tick before it is settled, and what a refused one answers.
+// The refusals of a tick before its speed is known.
 ghost use Rattle.std.specs.Prelude.{◌≡◌};
-ghost use Rattle.stepping.specs.Parts.{refusal_of, unstepped_as};
+ghost use Rattle.rules.specs.State.{state_from};
+ghost use Rattle.stepping.specs.Parts.{row_load};
 
-use crate::Stepped;
-use rules::{Jobs, Tally};
-use units::Ticks;
+use refusals::Refusal;
+use rules::{Jobs, Ladder, Tally, Tasks};
+use units::{Cycles, Ticks};
 
-// The smallest of 9 to 12 that applies to a tick, by whether its state is sound, its task count and the places of both lists, and whether a listed speed carries the load; 0 where none does.
-pub(crate) fn refusal(
-    sound: bool,
+// The load of a state that is ticked with so many places in both lists; or the smallest of 9 to 11 that applies.
+#[tactic(auto, unfolding(crate::specs::Parts::row_load, soundness::specs::Survey::survey_of, rules::specs::Numbers::all_done))]
+pub(crate) fn load(
     done: Ticks,
-    count: usize,
+    tasks: &Tasks,
+    jobs: &Jobs,
+    ladder: &Ladder,
+    tally: &Tally,
     reported: usize,
     granted: usize,
-    carried: bool,
-) -> u64
-    ensures { result ≡ refusal_of sound done.0 count reported granted carried }
+) -> Result<Cycles, Refusal>
+    ensures { result ≡ row_load (state_from done tasks.now jobs.now ladder.now tally.now) reported granted }
 {
-    if !sound {
-        return 9;
-    }
+    let load = soundness::survey(done, tasks, jobs, ladder, tally);
+    let load = load.ok_or(Refusal::Unsound)?;
     if 1000000000 <= done.0 {
-        return 10;
+        return Err(Refusal::RunDone);
     }
-    if reported != count {
-        return 11;
+    if reported != tasks.count {
+        return Err(Refusal::Length);
     }
-    if granted != count {
-        return 11;
+    if granted != tasks.count {
+        return Err(Refusal::Length);
     }
-    if !carried {
-        return 12;
-    }
-    0
-}
-
-// A refused tick: its number, and all as it was.
-pub(crate) fn unstepped(number: u64, done: Ticks, jobs: Jobs, tally: Tally) -> Stepped
-    ensures { result ≡ unstepped_as number done jobs tally }
-{
-    Stepped {
-        number: number,
-        done: done,
-        jobs: jobs,
-        tally: tally,
-    }
+    Ok(load)
 }

@@ -1,25 +1,19 @@
 // The walk over the counts of cycles, against the most that they may come to.
-ghost use Rattle.std.specs.Prelude.{◌≡◌};
-ghost use Rattle.tallies.specs.Tallies.{counted_within};
+ghost use Rattle.std.specs.Prelude.{◌≡◌, ◌+◌, leb};
+ghost use Rattle.tallies.specs.Parts.{cycles_of};
 
-use rules::Tally;
 use units::Cycles;
 
 // Whether counts and idle together are at most so many cycles: each is taken off what is left of those, so no sum is made.
-pub(crate) fn cycles_within(tally: Tally, most: Cycles) -> bool
-    ensures { result ≡ counted_within tally most.0 }
+pub(crate) fn cycles_within(counts: &[Cycles], idle: Cycles, most: Cycles) -> bool
+    ensures { result ≡ leb (cycles_of counts.now + idle.0) most.0 }
 {
-    let counts = tally.counts;
-    let mut left = most;
-    let mut i = 0;
-    while i < 8 {
-        let counted = counts[i];
-        if left.0 < counted.0 {
+    let mut left = most.0;
+    for counted in counts {
+        let Some(rest) = left.checked_sub(counted.0) else {
             return false;
-        }
-        left = Cycles(left.0 - counted.0);
-        i += 1;
+        };
+        left = rest;
     }
-    let idle = tally.idle;
-    idle.0 <= left.0
+    idle.0 <= left
 }

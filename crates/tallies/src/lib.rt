@@ -10,18 +10,12 @@ use rules::Tally;
 use units::{Speed, Ticks};
 
 // t at most 1,000,000,000, late and cut each at most 16 x t, counts and idle together at most t x top speed.
-pub fn tally_right(done: Ticks, tally: Tally, top: Speed) -> bool
-    ensures { result ≡ tally_right done tally top }
+#[tactic(auto, unfolding(crate::specs::Tallies::tally_right, crate::specs::Tallies::counted_within))]
+pub fn tally_right(done: Ticks, tally: &Tally, top: Speed) -> bool
+    ensures { result ≡ tally_right done tally.now top }
 {
-    if done.0 > 1000000000 {
-        return false;
-    }
-    let most = 16 * done.0;
-    if tally.late > most {
-        return false;
-    }
-    if tally.cut > most {
-        return false;
-    }
-    counts::cycles_within(tally, units::cycles_in(top, done))
+    done.0 <= 1000000000
+        && tally.late <= 16 * done.0
+        && tally.cut <= 16 * done.0
+        && counts::cycles_within(&tally.counts, tally.idle, units::cycles_in(top, done))
 }

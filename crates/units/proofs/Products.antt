@@ -1,8 +1,8 @@
 -- When a product of a speed and ticks fits, what `cycles_in` is then, and that `per_tick` is the way back from one tick.
 use mathlib.Core.Path.{◌≡◌, refl, sym, ap, ◌∙◌}
 use mathlib.Core.Bool.{Bool, true, false}
-use Prim.Native.Nat.{ℕ, ◌*◌, ◌/◌, ◌^◌, ◌≤◌, ◌<◌, min}
-use native.Mathlib.Nat.{mul-le-mul, mul-zero, mul-one, min-eq_left, min-eq_right, div-lt_iff_lt-mul, le-div_iff_mul-le, lt_of_le_of_lt, le_of_lt}
+use Prim.Native.Nat.{ℕ, ◌*◌, ◌^◌, ◌≤◌, ◌<◌, min}
+use native.Mathlib.Nat.{mul-le-mul, mul-one, min-eq_left, lt_of_le_of_lt}
 use native.Mathlib.Omega.{arith}
 use lib.Dec.{lit<, leb}
 use borrow.Author.Tests.{le-leb, lt-leb, leb-true, leb-false}
@@ -18,31 +18,11 @@ small_fits {s} {t} hs ht =
     let b : t ≤ 4294967295 = omega arith in
     lt_of_le_of_lt (mul-le-mul a b) (lit< tt)
 
--- a product whose quotient test passed fits
-pub tested_fits : (s t : ℕ) → 0 < t → s ≤ most_count / t → s * t < 2 ^ 64
-tested_fits s t p h =
-    let k : s * t ≤ most_count = (le-div_iff_mul-le p).0 h in
-    omega arith
-
--- and one that did not is above the largest count
-pub past_most : (s t : ℕ) → 0 < t → most_count / t < s → most_count < s * t
-past_most s t p h = (div-lt_iff_lt-mul p).0 h
-
 pub in_most : (s : Speed) (t : Ticks) → s.0 * t.0 < 2 ^ 64 → cycles (s.0 * t.0) ≡ cycles_in s t
 unfolding cycles_in
 in_most s t h =
     let k : s.0 * t.0 ≤ most_count = omega arith in
     ap cycles (sym (min-eq_left k))
-
-pub past_is : (s : Speed) (t : Ticks) → most_count < s.0 * t.0 → cycles most_count ≡ cycles_in s t
-unfolding cycles_in
-past_is s t h = ap cycles (sym (min-eq_right (le_of_lt h)))
-
-pub no_ticks : (s : Speed) (t : Ticks) → t.0 ≡ 0 → cycles 0 ≡ cycles_in s t
-unfolding cycles_in
-no_ticks s t e =
-    let z : s.0 * t.0 ≡ 0 = ap (λ (n : ℕ). s.0 * n) e ∙ mul-zero s.0 in
-    ap cycles (sym (ap (λ (n : ℕ). min n most_count) z))
 
 -- a load that can be written is carried exactly when it is at most `cycles_in`
 pub load_compared : (s : Speed) (t : Ticks) (l : ℕ) → l ≤ most_count → leb l (cycles_in s t).0 ≡ leb l (s.0 * t.0)

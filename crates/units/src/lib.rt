@@ -6,43 +6,33 @@ ghost use Rattle.units.specs.Units.{cycles_in, per_tick};
 
 // A count of ticks, the clock's steps.
 #[repr(C)]
-#[derive(Clone, Copy)]
+#[derive(Clone, Copy, Debug, Default, PartialEq, Eq, PartialOrd, Ord)]
 pub struct Ticks(pub u64);
 
 // A count of cycles, in which work is measured.
 #[repr(C)]
-#[derive(Clone, Copy)]
+#[derive(Clone, Copy, Debug, Default, PartialEq, Eq, PartialOrd, Ord)]
 pub struct Cycles(pub u64);
 
 // A speed: cycles per tick.
 #[repr(C)]
-#[derive(Clone, Copy)]
+#[derive(Clone, Copy, Debug, Default, PartialEq, Eq, PartialOrd, Ord)]
 pub struct Speed(pub u64);
 
 // A voltage in whole tenths of a volt.
 #[repr(C)]
-#[derive(Clone, Copy)]
+#[derive(Clone, Copy, Debug, Default, PartialEq, Eq, PartialOrd, Ord)]
 pub struct Volts(pub u64);
 
-// The cycles that a speed makes in so many ticks; the largest count there is, where they are more than that.
-#[tactic(auto, using(crate::proofs::Products::small_fits, crate::proofs::Products::in_most, crate::proofs::Products::no_ticks, crate::proofs::Products::past_is, crate::proofs::Products::past_most, crate::proofs::Products::tested_fits))]
+// The cycles that a speed makes in so many ticks; the largest count there is, where they are more than that. Two counts below 2 ^ 32, as in every sound state, need no division.
+#[tactic(auto, using(crate::proofs::Products::small_fits, crate::proofs::Products::in_most), unfolding(crate::specs::Units::cycles_in))]
 pub fn cycles_in(speed: Speed, ticks: Ticks) -> Cycles
     ensures { result ≡ cycles_in speed ticks }
 {
-    let s = speed.0;
-    let t = ticks.0;
-    if s < 4294967296 {
-        if t < 4294967296 {
-            return Cycles(s * t);
-        }
+    if speed.0 < 4294967296 && ticks.0 < 4294967296 {
+        return Cycles(speed.0 * ticks.0);
     }
-    if t == 0 {
-        return Cycles(0);
-    }
-    if 18446744073709551615 / t < s {
-        return Cycles(18446744073709551615);
-    }
-    Cycles(s * t)
+    Cycles(speed.0.saturating_mul(ticks.0))
 }
 
 // The speed at which one tick has so many cycles.
@@ -53,9 +43,9 @@ pub fn per_tick(cycles: Cycles) -> Speed
 }
 
 // Rule 2: whether a speed carries a load over so many ticks, for every three numbers.
+#[tactic(auto, using(crate::proofs::Products::load_compared))]
 pub fn carries(speed: Speed, ticks: Ticks, load: Cycles) -> bool
     ensures { result ≡ leb load.0 (speed.0 * ticks.0) }
 {
-    let most = cycles_in(speed, ticks);
-    load.0 <= most.0
+    load <= cycles_in(speed, ticks)
 }

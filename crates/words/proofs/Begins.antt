@@ -1,34 +1,30 @@
 -- A word at a place of a text: one byte of the comparison, its ends, and that the word lies within the text. By `begins` opened at the rests of the two lists.
-use mathlib.Core.Path.{◌≡◌, refl}
+use mathlib.Core.Path.{◌≡◌, refl, sym}
 use mathlib.Core.Bool.{Bool, true, false, ◌&&◌, false≢true}
 use mathlib.Core.List.{List, [], ◌∷◌}
 use Prim.Native.Nat.{ℕ, suc, zero-le, suc-le-suc, ◌+◌, ◌-◌, ◌≤◌, ◌<◌}
 use native.Mathlib.Nat.{not-suc-le-zero}
-use native.Mathlib.Numerals.{add-one}
 use native.Mathlib.Omega.{arith}
-use borrow.Author.Tests.{eq-eqb, ne_eqb}
+use borrow.Author.Tests.{eq-eqb, ne_eqb, eqb-true, eqb-false}
 use lib.Dec.{eqb, eqb-suc-zero}
-use lib.ListN.{length, get_or, drop, length-drop, drop_of_length-le}
-use lib.Seq.{drop-cons}
+use lib.ListN.{length, drop, length-drop, drop_of_length-le}
+use Rattle.std.specs.List.{starts_with}
 use Rattle.words.specs.Words.{begins, stands_at}
 
-module _ (text word : List ℕ) (at i : ℕ) where
-  -- an equal byte: the rests decide
-  pub same_byte : at + i < length text → i < length word → get_or text (at + i) 0 ≡ get_or word i 0 → begins (drop (at + i) text) (drop i word) ≡ begins (drop (at + (i + 1)) text) (drop (i + 1) word)
-  unfolding begins
-  same_byte a b e =
-      let next : at + (i + 1) ≡ suc (at + i) = omega arith in
-      rw (drop-cons text (at + i) 0, drop-cons word i 0, next, add-one i, eq-eqb _ _ e)
+-- one test of two bytes, in either order
+eqb_swapped : (a b : ℕ) → eqb a b ≡ eqb b a
+eqb_swapped a b = go (eqb b a) refl
+  where
+    go : (t : Bool) → eqb b a ≡ t → eqb a b ≡ t
+    go true e = eq-eqb a b (sym (eqb-true b a e))
+    go false e = ne_eqb a b (λ h. eqb-false b a e (sym h))
 
-  -- another byte: the word does not stand there
-  pub other_byte : at + i < length text → i < length word → (get_or text (at + i) 0 ≡ get_or word i 0 → ⊥) → begins (drop (at + i) text) (drop i word) ≡ false
-  unfolding begins
-  other_byte a b e = rw (drop-cons text (at + i) 0, drop-cons word i 0, ne_eqb _ _ e)
-
-  -- no byte of the word is left: it stands there
-  pub all_same : length word ≤ i → begins (drop (at + i) text) (drop i word) ≡ true
-  unfolding begins
-  all_same h = rw (drop_of_length-le word {i = i} h)
+-- a text begins with a word where std's `starts_with` says so
+pub begins_starts : (text word : List ℕ) → starts_with eqb text word ≡ begins text word
+unfolding begins
+begins_starts text [] = refl
+begins_starts [] (w ∷ ws) = refl
+begins_starts (b ∷ bs) (w ∷ ws) = rw (eqb_swapped w b, begins_starts bs ws)
 
 -- one step of the next law, on either answer of the byte
 longer_by : (t : Bool) (n m : ℕ) → (t ≡ true → n ≤ m) → (a : Bool) → (a && t) ≡ true → suc n ≤ suc m
@@ -47,17 +43,13 @@ pub stands_within : (text : List ℕ) (at : ℕ) (word : List ℕ) → 1 ≤ len
 unfolding stands_at
 stands_within text at word some e = omega (arith, length-drop at text, begins_long (drop at text) word e)
 
--- a word that is longer than what is left of the text does not stand there
-pub too_long : (text : List ℕ) (at : ℕ) (word : List ℕ) → length text - at < length word → stands_at text at word ≡ false
-unfolding stands_at
-too_long text at word h = go (begins (drop at text) word) refl
-  where
-    go : (t : Bool) → begins (drop at text) word ≡ t → begins (drop at text) word ≡ false
-    go false e = e
-    go true e = absurd (not-suc-le-zero {n = 0} (omega (arith, length-drop at text, begins_long (drop at text) word e)))
-
 -- past the end only the empty word stands
 pub stands_past : (text : List ℕ) (at : ℕ) (word : List ℕ) → length text ≤ at → stands_at text at word ≡ eqb (length word) 0
 unfolding stands_at begins
 stands_past text at [] h = refl
 stands_past text at (w ∷ ws) h = rw (drop_of_length-le text {i = at} h, eqb-suc-zero (length ws))
+
+-- what is left of a text begins with a word where the word stands at that place
+pub stands_starts : (text : List ℕ) (at : ℕ) (word : List ℕ) → starts_with eqb (drop at text) word ≡ stands_at text at word
+unfolding stands_at
+stands_starts text at word = begins_starts (drop at text) word

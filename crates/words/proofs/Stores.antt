@@ -1,15 +1,15 @@
 -- Runs of stores: one after another, one that a later store does not touch, what fits and what does not. By induction on the run.
 use mathlib.Core.Path.{◌≡◌, refl, ap, ◌∙◌}
 use mathlib.Core.Bool.{Bool, true, false}
-use mathlib.Core.List.{List, [], ◌∷◌, ◌++◌}
-use Prim.Native.Nat.{ℕ, suc, ◌+◌, ◌≤◌, ◌<◌}
+use mathlib.Core.List.{List, [], ◌∷◌, ◌++◌, append_assoc}
+use Prim.Native.Nat.{ℕ, suc, ◌+◌, ◌-◌, ◌≤◌, ◌<◌}
 use native.Mathlib.Nat.{add-zero, add-suc, suc-add}
-use native.Mathlib.Numerals.{add-one}
 use native.Mathlib.Omega.{arith}
 use borrow.Author.Tests.{le-leb, lt-leb, leb-true, leb-false}
 use lib.Dec.{leb}
-use lib.ListN.{length, get_or, drop, set, drop_of_length-le}
-use lib.Seq.{drop-cons, sets, length-sets, set_comm}
+use lib.ListN.{length, take, drop, set}
+use lib.Seq.{sets, sets-eq, length-sets, set_comm, drop-drop}
+use borrow.Rule.Slice.PartMut.{put_mid}
 use Rattle.words.specs.Words.{fits, put_in, place_after}
 
 -- one run of stores after another is one run
@@ -22,14 +22,11 @@ pub set_after : (xs d : List ℕ) (at j b : ℕ) → at + length xs ≤ j → se
 set_after [] d at j b h = refl
 set_after (x ∷ xs) d at j b h = set_after xs (set d at x) (suc at) j b (omega arith) ∙ ap (λ (l : List ℕ). sets l (suc at) xs) (set_comm d at j x b (λ e. omega arith))
 
-module _ (d w : List ℕ) (at i : ℕ) where
-  -- a byte of a word stored: the rest of it is left
-  pub stored : i < length w → sets d (at + i) (drop i w) ≡ sets (set d (at + i) (get_or w i 0)) (at + (i + 1)) (drop (i + 1) w)
-  stored h = rw (drop-cons w i 0, add-one i, add-suc at i)
-
-  -- past the end of a word nothing is left to store
-  pub all_stored : length w ≤ i → sets d (at + i) (drop i w) ≡ d
-  all_stored h = rw (drop_of_length-le w {i = i} h)
+-- a run of stores that fits is one copy over its places
+pub copied : (out w : List ℕ) (at : ℕ) → at + length w ≤ length out → put_mid at (at + length w - at) out w ≡ sets out at w
+copied out w at h =
+    let count : at + length w - at ≡ length w = omega arith in
+    rw (count, sets-eq w out at h, drop-drop (length w) at out, append_assoc (take at out) w (drop (at + length w) out))
 
 module _ (out : List ℕ) (at : ℕ) (w : List ℕ) where
   -- a word that fits is put
@@ -41,6 +38,13 @@ module _ (out : List ℕ) (at : ℕ) (w : List ℕ) where
   pub put_short : length out < at + length w → (put_in out at w ≡ out) × (place_after out at w ≡ at)
   unfolding put_in place_after fits
   put_short h = (rw (lt-leb _ _ h), rw (lt-leb _ _ h))
+
+  -- the place told, by itself: past a word that fits, and the place itself before one that does not
+  pub place_fits : at + length w ≤ length out → place_after out at w ≡ at + length w
+  place_fits h = (put_fits h).1
+
+  pub place_short : length out < at + length w → place_after out at w ≡ at
+  place_short h = (put_short h).1
 
   -- no put changes the length
   pub length_put : length (put_in out at w) ≡ length out

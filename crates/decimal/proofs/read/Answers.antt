@@ -1,55 +1,29 @@
--- `read` passes digit after digit: those passed with those ahead are the field, and where none is ahead the number passed is its number.
-use native.Mathlib.Omega.{arith}
-use Rattle.decimal.proofs.Reading.{Ended, none_passed, one_more, no_fit, no_more, byte_low, byte_high, text_ends, within, reads_none, reads_zero, reads_one, reads_more}
+-- `read` takes the digits that the rest of the text begins with: their form and their number decide the field.
+use Rattle.std.proofs.Common.{sym, ◌∙◌, ◌≡◌, length, take, drop, arith}
+use Rattle.std.proofs.lemmas.Slice.{between_to_end}
+use Rattle.decimal.specs.Decimal.{digits}
+use Rattle.decimal.proofs.Reading.{digits_of_part, reads_wrong, reads_over, reads_number}
 use Rattle.decimal.proofs.read.Goals as goal
-use Rattle.decimal.proofs.read.Goals.{Left-loop-i, else-loop-i-test, then-loop-i-test+then-b-lt48, then-loop-i-test+else-b-lt48+then-b-gt57}
+use Rattle.decimal.proofs.read.Goals.{After-digit_count}
 
-pub loop-i-init : goal.loop-i-init
-loop-i-init c = none_passed _ _
+-- the rest is the text from the place on, and the part taken of it are its digits
+rest : (c : After-digit_count) → c.in_ok-rest.rest.now ≡ drop c.args.at c.args.text.now
+rest c = c.in_ok-rest.ensures.lookup.0.2 ∙ between_to_end c.args.text.now c.args.at (length c.args.text.now) (omega arith)
 
-pub overflow_cast-d : goal.overflow_cast-d
-overflow_cast-d c = omega arith
+front : (c : After-digit_count) → take c.digit_count.result c.in_ok-rest.rest.now ≡ digits c.in_ok-rest.rest.now
+front c = (digits_of_part c.in_ok-rest.rest.now c.digit_count.result c.digit_count.ensures).0
 
-pub overflow_sub-d-in-loop-i : goal.overflow_sub-d-in-loop-i
-overflow_sub-d-in-loop-i c = omega arith
+pub returns-then-not-no_leading_zero : goal.returns-then-not-no_leading_zero
+returns-then-not-no_leading_zero c =
+    let d = (goal.at.returns-then-not-no_leading_zero c).After-digit_count in
+    sym (reads_wrong _ _ _ _ (rest d) (front d) (sym c.if-not-no_leading_zero.ensures))
 
-pub returns-then-value-d : goal.returns-then-value-d
-returns-then-value-d c =
-    no_fit _ _ c.loop-i.i c.loop-i.value c.loop-i.invariant (omega arith) (omega arith) (omega arith) (omega arith)
+pub returns-in_err-value : goal.returns-in_err-value
+returns-in_err-value c =
+    let d = (goal.at.returns-in_err-value c).After-digit_count in
+    c.from_residual-in_err-value.ensures ∙ sym (reads_over _ _ _ _ (rest d) (front d) (sym c.in_err-value.ensures))
 
-pub overflow_mul-value : goal.overflow_mul-value
-overflow_mul-value c = omega arith
-
-pub overflow_add-value : goal.overflow_add-value
-overflow_add-value c = omega arith
-
-pub loop-i-preserved : goal.loop-i-preserved
-loop-i-preserved c =
-    one_more _ _ c.loop-i.i c.loop-i.value c.loop-i.invariant (omega arith) (omega arith) (omega arith) (omega arith)
-
--- where the loop is left, no digit is ahead: the text ends, or a byte is no digit
-left : (c : Left-loop-i) → Ended c.args.text.now c.args.at c.loop-i.i c.loop-i.value
-left c =
-    no_more _ _ _ _ c.loop-i.invariant
-    (elim c.loop-i-test.branch [
-      | else-loop-i-test w ↦ text_ends _ _ w.loop-i-test.false
-      | then-loop-i-test+then-b-lt48 w ↦ byte_low _ _ w.loop-i-test.true w.if-b-lt48.true
-      | then-loop-i-test+else-b-lt48+then-b-gt57 w ↦ byte_high _ _ w.loop-i-test.true w.if-b-lt48.false w.if-b-gt57.true
-    ])
-
-pub returns-then-n-eq0 : goal.returns-then-n-eq0
-returns-then-n-eq0 c = reads_none _ _ _ _ (left (goal.at.returns-then-n-eq0 c).Left-loop-i) (omega arith)
-
-pub bounds-text-at : goal.bounds-text-at
-bounds-text-at c =
-    let a = c.args in
-    within a.text.now a.at (omega (arith, left (goal.at.bounds-text-at c).Left-loop-i))
-
-pub returns-then-text-at-eq48 : goal.returns-then-text-at-eq48
-returns-then-text-at-eq48 c = reads_zero _ _ _ _ (left (goal.at.returns-then-text-at-eq48 c).Left-loop-i) (omega arith) c.if-text-at-eq48.true
-
-pub returns-else-text-at-eq48 : goal.returns-else-text-at-eq48
-returns-else-text-at-eq48 c = reads_more _ _ _ _ (left (goal.at.returns-else-text-at-eq48 c).Left-loop-i) (omega arith) c.if-text-at-eq48.false
-
-pub returns-else-n-gt1 : goal.returns-else-n-gt1
-returns-else-n-gt1 c = reads_one _ _ _ _ (left (goal.at.returns-else-n-gt1 c).Left-loop-i) c.if-n-eq0.false (omega arith)
+pub returns : goal.returns
+returns c =
+    let d = (goal.at.returns c).After-digit_count in
+    sym (reads_number _ _ _ _ (rest d) (front d) _ (sym c.if-not-no_leading_zero.ensures) (sym c.in_ok-value.ensures))

@@ -1,10 +1,10 @@
 -- `lcm_of` meets its contract: the loop keeps that `acc` is the least common multiple of the numbers passed, at most the cap. Assumes nothing.
-use mathlib.Core.Path.{subst}
+use mathlib.Core.Path.{sym, subst}
 use Prim.Native.Nat.{◌<◌}
 use native.Mathlib.Omega.{arith}
 use lib.ListN.{get_or}
-use Rattle.divisors.specs.Divisors.{lcm_of, Capped, ZeroIn}
-use Rattle.divisors.proofs.DivisorLaws.{lcm_is, capped_number, capped_large}
+use Rattle.divisors.specs.Divisors.{lcm_of, Capped, IsLcmOf, ZeroIn}
+use Rattle.divisors.proofs.DivisorLaws.{lcm_is}
 use Rattle.divisors.proofs.Prefixes.{zero_is, none_pos, empty_is, turn_is, turn_above, end_is}
 use Rattle.divisors.proofs.lcm_of.Goals as goal
 
@@ -20,32 +20,30 @@ returns-then-cap-eq0 c m s =
     let l = c.args.list.now in
     rw c.if-cap-eq0.true (none_pos l (subst (ZeroIn l) c.if-has_zero.false c.has_zero.ensures) s)
 
-pub loop-i-init : goal.loop-i-init
-loop-i-init c = (omega arith, omega arith, empty_is c.args.list.now)
+pub loop-x-init : goal.loop-x-init
+loop-x-init c = (omega arith, empty_is c.args.list.now)
 
-pub returns-in_default : goal.returns-in_default
+pub returns-in_err-acc : goal.returns-in_err-acc
 unfolding Capped
-returns-in_default c m s =
-    let free = c in
-    let w = c.loop-i in
-    let a = free.args in
-    let l = a.list.now in
-    let x = get_or l w.i 0 in
-    let none = subst (ZeroIn l) free.if-has_zero.false free.has_zero.ensures in
-    let high : a.cap < lcm_of w.acc x = capped_large _ _ _ c.in_default.is c.lcm.ensures (lcm_is w.acc x) in
-    turn_above l w.i w.acc c.loop-i-test.true w.invariant.2 a.cap m none high s
-
-pub loop-i-preserved : goal.loop-i-preserved
-loop-i-preserved c =
-    let w = c.loop-i in
+returns-in_err-acc c =
+    let w = c.loop-x in
     let a = c.args in
     let l = a.list.now in
-    let known = capped_number _ _ _ c.in-Is.is c.lcm.ensures in
-    (omega arith, known.1, turn_is l w.i w.acc c.loop-i-test.true w.invariant.2 known.0)
+    let x = get_or l w.x-index 0 in
+    let none = subst (ZeroIn l) c.if-has_zero.false c.has_zero.ensures in
+    let high : a.cap < lcm_of w.acc x = c.in_err-acc.ensures (lcm_of w.acc x) (lcm_is w.acc x) in
+    subst (Capped a.cap (IsLcmOf l)) (sym c.from_residual.ensures) (λ m s. turn_above l w.x-index w.acc c.loop-x-test.true w.invariant.1 a.cap m none high s)
+
+pub loop-x-preserved : goal.loop-x-preserved
+unfolding Capped
+loop-x-preserved c =
+    let w = c.loop-x in
+    let known = c.in_ok-acc.ensures in
+    (known.1, turn_is c.args.list.now w.x-index w.acc c.loop-x-test.true w.invariant.1 known.0)
 
 pub returns : goal.returns
 unfolding Capped
 returns c =
-    let w = c.loop-i in
+    let w = c.loop-x in
     let l = c.args.list.now in
-    (end_is l w.i w.acc c.loop-i-test.false w.invariant.2, w.invariant.1)
+    (end_is l w.x-index w.acc c.loop-x-test.false w.invariant.1, w.invariant.0)

@@ -1,30 +1,26 @@
 -- `energy` is the survey and rule 6: a sound state's sum fits 64 bits.
-use mathlib.Core.Path.{◌≡◌, ap, ◌∙◌}
-use mathlib.Core.Bool.{true}
-use Prim.Native.Nat.{ℕ}
+use mathlib.Core.Path.{sym, ◌∙◌}
 use native.Mathlib.Omega.{arith}
-use Rattle.rules.specs.Numbers.{sound}
+use Rattle.std.proofs.lemmas.Result.{err_from_is_err_and}
 use Rattle.rules.proofs.Soundness.{Sound, sound_facts}
-use Rattle.rules.proofs.CallRows.{energy_refused, energy_accepted}
+use Rattle.rules.proofs.Answered.{energy-err, energy-ok}
 use Rattle.rules.proofs.Energies.{energy_most}
 use Rattle.rules.proofs.Loads.{top_limit, volts_limit}
-use Rattle.stepping.proofs.TickLaws.{sound_told, unsound_told}
+use Rattle.stepping.proofs.TickLaws.{none_or, sound_told, unsound_told}
 use Rattle.governor.proofs.energy.Goals as goal
-use Rattle.governor.proofs.energy.Goals.{Else-not-survey}
 
--- past the survey: the state is sound
-is-sound : (c : Else-not-survey) → sound c.args.state ≡ true
-is-sound c = sound_told c.args.state _ c.survey-survey.ensures c.if-not-survey.false
-
-pub returns-then-not-survey : goal.returns-then-not-survey
-returns-then-not-survey c = let s = c.args.state in
-    energy_refused s (unsound_told s _ c.survey-survey.ensures c.if-not-survey.true)
+pub returns-in_err-ok_or : goal.returns-in_err-ok_or
+returns-in_err-ok_or c =
+    let s = c.args.state in
+    let none = none_or _ _ _ c.in_err-ok_or.ensures.value in
+    let p = err_from_is_err_and c.from_residual.result c.from_residual.ensures.1 in
+    rw (p.1, p.2, none.1) (energy-err s (unsound_told s (sym c.survey-load.ensures ∙ none.0)))
 
 pub energy_of-requires : goal.energy_of-requires
 energy_of-requires c = let s = c.args.state in
-    let f : Sound s = sound_facts s (is-sound (goal.at.energy_of-requires c).Else-not-survey) in
+    let f : Sound s = sound_facts s (sound_told s _ (sym c.survey-load.ensures ∙ c.in_ok-ok_or.ensures.ok_part)).0 in
     record { listed = f.speeds_most; fits = omega (arith, energy_most s f (top_limit s f) (λ i h. volts_limit s f i h)) }
 
 pub returns : goal.returns
 returns c = let s = c.args.state in
-    ap (λ (n : ℕ). record { number = 0; energy = n }) c.energy_of.ensures ∙ energy_accepted s (is-sound (goal.at.returns c).Else-not-survey)
+    rw c.energy_of.ensures (energy-ok s (sound_told s _ (sym c.survey-load.ensures ∙ c.in_ok-ok_or.ensures.ok_part)).0)

@@ -1,66 +1,33 @@
 -- `play` reads, starts and plays: each of its four ways out is a case of the definition, and what a run asks for comes from the file that was read and from start.
-use mathlib.Core.Path.{◌∙◌}
-use native.Mathlib.Omega.{arith}
-use Rattle.runfile.specs.Good.{GoodFile}
-use Rattle.player.proofs.Outcomes.{no_file, good, no_start, no_room, all_played, runnable, width_fits, needed_fits}
+use mathlib.Core.Path.{◌≡◌}
+use mathlib.Core.List.{List}
+use Prim.Native.Nat.{ℕ}
+use Rattle.rules.specs.Answers.{Started}
+use Rattle.rules.specs.Calls.{start_of}
+use Rattle.player.proofs.Outcomes.{no_file, no_start, no_room, all_played, runnable, needed_fits}
 use Rattle.player.proofs.play.Goals as goal
-use Rattle.player.proofs.play.Goals.{Else-file-ne0}
 
--- the file that was read is a good one
-keeps : (c : Else-file-ne0) → GoodFile c.read-file.result
-keeps c = good c.args.text.now c.read-file.result c.read-file.ensures c.args.rows.now c.if-file-ne0.false
+-- what start answers of the four lists lent, it answers of what they hold
+lent : {r : Started} {a b d e a' b' d' e' : List ℕ} → a ≡ a' → b ≡ b' → d ≡ d' → e ≡ e' → r ≡ start_of a b d e → r ≡ start_of a' b' d' e'
+lent p q s t h = rw (← p, ← q, ← s, ← t) h
 
-pub returns-then-file-ne0 : goal.returns-then-file-ne0
-returns-then-file-ne0 c =
-    let done = no_file c.args.text.now c.read-file.result c.read-file.ensures c.args.rows.now c.if-file-ne0.true in
-    (c.unplayed.ensures ∙ done.0, done.1)
+pub returns-in-Err : goal.returns-in-Err
+returns-in-Err c = rw c.unplayed.ensures (no_file c.args.text.now c.args.rows.now c.in-Err.refusal c.in-Err.ensures)
 
-pub slice_bounds-start-count : goal.slice_bounds-start-count
-slice_bounds-start-count c = let k = keeps (goal.at.slice_bounds-start-count c).Else-file-ne0 in
-    omega (arith, k.tasks.few, k.tasks.firsts)
+pub returns-in-Err-started : goal.returns-in-Err-started
+returns-in-Err-started c = rw c.unplayed-in-Err-started.ensures (no_start c.args.text.now c.args.rows.now c.in-Ok.file c.in-Ok.ensures c.in-Err-started.refusal (lent c.as_slice.ensures.value c.as_slice-2.ensures.value c.as_slice-3.ensures.value c.as_slice-4.ensures.value c.in-Err-started.ensures))
 
-pub slice_bounds-start-end : goal.slice_bounds-start-end
-slice_bounds-start-end c = let k = keeps (goal.at.slice_bounds-start-end c).Else-file-ne0 in
-    omega (arith, k.tasks.few, k.tasks.firsts)
+pub overflow_mul-file : goal.overflow_mul-file
+overflow_mul-file c = rw c.len.ensures.value (needed_fits c.args.text.now c.args.rows.now c.in-Ok.file c.in-Ok.ensures)
 
-pub slice_bounds-start-end-3 : goal.slice_bounds-start-end-3
-slice_bounds-start-end-3 c = let k = keeps (goal.at.slice_bounds-start-end-3 c).Else-file-ne0 in
-    omega (arith, k.speeds.few, k.speeds.firsts)
-
-pub slice_bounds-start-count-2 : goal.slice_bounds-start-count-2
-slice_bounds-start-count-2 c = let k = keeps (goal.at.slice_bounds-start-count-2 c).Else-file-ne0 in
-    omega (arith, k.tasks.few, k.tasks.seconds)
-
-pub slice_bounds-start-count-3 : goal.slice_bounds-start-count-3
-slice_bounds-start-count-3 c = let k = keeps (goal.at.slice_bounds-start-count-3 c).Else-file-ne0 in
-    omega (arith, k.speeds.few, k.speeds.firsts)
-
-pub slice_bounds-start-count-4 : goal.slice_bounds-start-count-4
-slice_bounds-start-count-4 c = let k = keeps (goal.at.slice_bounds-start-count-4 c).Else-file-ne0 in
-    omega (arith, k.speeds.few, k.speeds.seconds)
-
-pub returns-then-started-ne0 : goal.returns-then-started-ne0
-returns-then-started-ne0 c =
-    let done = no_start c.args.text.now c.read-file.result c.read-file.ensures c.args.rows.now c.if-file-ne0.false c.start-started.result c.start-started.ensures c.if-started-ne0.true in
-    (c.unplayed-then-started-ne0.ensures ∙ done.0, done.1)
-
-pub overflow_add-n : goal.overflow_add-n
-overflow_add-n c =
-    width_fits c.args.text.now c.read-file.result c.read-file.ensures c.args.rows.now c.if-file-ne0.false
-
-pub overflow_mul-run : goal.overflow_mul-run
-overflow_mul-run c =
-    needed_fits c.args.text.now c.read-file.result c.read-file.ensures c.args.rows.now c.if-file-ne0.false
-
-pub returns-then-rows-run : goal.returns-then-rows-run
-returns-then-rows-run c =
-    let done = no_room c.args.text.now c.read-file.result c.read-file.ensures c.args.rows.now c.if-file-ne0.false c.start-started.result c.start-started.ensures c.if-started-ne0.false c.if-rows-run.true in
-    (c.unplayed-then-rows-run.ensures ∙ done.0, done.1)
+pub returns-then-rows-file : goal.returns-then-rows-file
+returns-then-rows-file c = no_room c.args.text.now c.args.rows.now c.in-Ok.file c.in-Ok.ensures c.in-Ok-started.state (lent c.as_slice.ensures.value c.as_slice-2.ensures.value c.as_slice-3.ensures.value c.as_slice-4.ensures.value c.in-Ok-started.ensures) (rw c.len.ensures.value at c.if-rows-file.true)
 
 pub play_run-requires : goal.play_run-requires
 play_run-requires c =
-    runnable c.args.text.now c.read-file.result c.read-file.ensures c.args.rows.now c.if-file-ne0.false c.start-started.result c.start-started.ensures c.if-started-ne0.false c.if-rows-run.false
+    rw c.as_slice-5.ensures.value
+    (runnable c.args.text.now c.args.rows.now c.in-Ok.file c.in-Ok.ensures c.in-Ok-started.state (lent c.as_slice.ensures.value c.as_slice-2.ensures.value c.as_slice-3.ensures.value c.as_slice-4.ensures.value c.in-Ok-started.ensures) (rw c.len.ensures.value at c.if-rows-file.false))
 
 pub returns : goal.returns
 returns c =
-    all_played c.args.text.now c.read-file.result c.read-file.ensures c.args.rows.now c.if-file-ne0.false c.start-started.result c.start-started.ensures c.if-started-ne0.false c.if-rows-run.false c.play_run.result _ c.play_run.ensures.value c.play_run.ensures.rows_after
+    all_played c.args.text.now c.args.rows.now c.in-Ok.file c.in-Ok.ensures c.in-Ok-started.state (lent c.as_slice.ensures.value c.as_slice-2.ensures.value c.as_slice-3.ensures.value c.as_slice-4.ensures.value c.in-Ok-started.ensures) (rw c.len.ensures.value at c.if-rows-file.false) c.play_run.result _ (rw c.as_slice-5.ensures.value at c.play_run.ensures.value) (rw c.as_slice-5.ensures.value at c.play_run.ensures.rows_after)

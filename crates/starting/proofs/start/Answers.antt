@@ -1,25 +1,22 @@
--- `start` is the verdict on its table with the state that goes with it; a verdict of 0 gives the lengths that the arrays need.
-use mathlib.Core.Path.{ap₂, ◌∙◌}
-use Rattle.rules.specs.Limits.{most_tasks, most_speeds}
-use Rattle.rules.specs.Calls.{fresh_state}
-use Rattle.rules.proofs.Tables.{passes, match_most, match_same}
-use Rattle.starting.proofs.Starts.{number_is, verdict_refused, verdict_passed}
+-- `start` refuses as `judge` does, and else lays the table out at tick 0.
+use mathlib.Core.Path.{ap, ap₂, ◌∙◌}
+use Rattle.std.proofs.lemmas.Result.{err_from_is_err_and}
+use Rattle.std.specs.Prelude.{Ok}
+use Rattle.rules.specs.declared.State.{State}
+use Rattle.rules.specs.Calls.{tasks_from, fresh_state, started_by}
+use Rattle.rules.proofs.Answered.{start-err, start-ok}
+use Rattle.admission.proofs.Verdicts.{refusal_number, no_number, great_found}
 use Rattle.starting.proofs.start.Goals as goal
 
-pub returns-then-number-ne0 : goal.returns-then-number-ne0
-returns-then-number-ne0 c = c.refused.ensures ∙ verdict_refused _ _ _ _ _ c.judge-verdict.ensures c.if-number-ne0.true
-
-pub tasks_from-tasks-requires : goal.tasks_from-tasks-requires
-tasks_from-tasks-requires c =
-    let p = (passes _ _ _ _ (number_is _ _ _ _ _ c.judge-verdict.ensures ∙ c.if-number-ne0.false)).forms in
-    (match_most most_tasks _ _ p.tasks_match, match_same most_tasks _ _ p.tasks_match)
-
-pub ladder_from-ladder-requires : goal.ladder_from-ladder-requires
-ladder_from-ladder-requires c =
-    let p = (passes _ _ _ _ (number_is _ _ _ _ _ c.judge-verdict.ensures ∙ c.if-number-ne0.false)).forms in
-    (match_most most_speeds _ _ p.speeds_match, match_same most_speeds _ _ p.speeds_match)
+pub returns-in_err-great : goal.returns-in_err-great
+returns-in_err-great c =
+    let left = err_from_is_err_and c.from_residual.result c.from_residual.ensures.1 in
+    rw (left.1, left.2) (start-err _ _ _ _ _ (refusal_number _ _ _ _ _ c.in_err-great.ensures))
 
 pub returns : goal.returns
 returns c =
-    verdict_passed _ _ _ _ _ c.judge-verdict.ensures c.if-number-ne0.false _
-    (c.fresh.ensures ∙ ap₂ fresh_state c.tasks_from-tasks.ensures c.ladder_from-ladder.ensures)
+    let a = c.args in
+    let passed = c.in_ok-great.ensures in
+    let tasks = c.tasks_from-tasks.ensures ∙ ap (λ h. tasks_from h a.periods.now a.reserves.now) (great_found _ _ _ _ _ passed) in
+    ap (λ (s : State). started_by (Ok s)) (c.fresh.ensures ∙ ap₂ fresh_state tasks c.ladder_from.ensures)
+    ∙ start-ok _ _ _ _ (no_number _ _ _ _ _ passed)

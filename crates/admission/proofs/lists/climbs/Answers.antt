@@ -1,44 +1,30 @@
--- `climbs` tests every place against the one before: what is left to test from `i` on, after the number before, is the whole test.
-use mathlib.Core.Path.{refl, sym, ◌∙◌}
-use native.Mathlib.Omega.{arith}
+-- `climbs` tests every place against the one before: what is left to test from `x` on, after the number before, is the whole test.
+use Rattle.std.proofs.Common.{sym, ◌∙◌}
 use Rattle.admission.proofs.Walks.{climb_on, climb_low, climb_high, climb_short, climb_end}
 use Rattle.admission.proofs.lists.climbs.Goals as goal
-
-pub loop-i-init : goal.loop-i-init
-loop-i-init c = (omega arith, omega arith, refl)
+use Rattle.admission.proofs.lists.climbs.Goals.{then-x-lt1-via-then-x-lt1, then-x-lt1-via-else-x-lt1+then-most-x, then-x-lt1-via-else-x-lt1+else-most-x+then-x-before}
 
 pub returns-then-x-lt1 : goal.returns-then-x-lt1
 returns-then-x-lt1 c =
-    let b = c in
-    let a = b.args in
-    sym (b.loop-i.invariant.2 ∙ climb_low a.most a.gap b.loop-i.before a.list.now b.loop-i.i c.loop-i-test.true c.if-x-lt1.true)
+    let a = c.args in
+    let w = c.loop-x in
+    let h = c.loop-x-test.true in
+    sym
+    (w.invariant.1
+    ∙ elim c.then-x-lt1.branch [
+      | then-x-lt1-via-then-x-lt1 v ↦ climb_low a.most a.gap w.before a.list.now w.x-index h v.if-x-lt1.true
+      | then-x-lt1-via-else-x-lt1+then-most-x v ↦ climb_high a.most a.gap w.before a.list.now w.x-index h v.if-x-lt1.false v.if-most-x.true
+      | then-x-lt1-via-else-x-lt1+else-most-x+then-x-before v ↦ climb_short a.most a.gap w.before a.list.now w.x-index h v.if-x-lt1.false v.if-most-x.false v.if-x-before.true
+    ])
 
-pub returns-then-most-x : goal.returns-then-most-x
-returns-then-most-x c =
-    let b = c in
-    let a = b.args in
-    sym (b.loop-i.invariant.2 ∙ climb_high a.most a.gap b.loop-i.before a.list.now b.loop-i.i c.loop-i-test.true c.if-x-lt1.false c.if-most-x.true)
-
-pub overflow_add-before : goal.overflow_add-before
-overflow_add-before c = omega arith
-
-pub returns-then-x-before : goal.returns-then-x-before
-returns-then-x-before c =
-    let b = c in
-    let a = b.args in
-    sym (b.loop-i.invariant.2 ∙ climb_short a.most a.gap b.loop-i.before a.list.now b.loop-i.i c.loop-i-test.true c.if-x-lt1.false c.if-most-x.false c.if-x-before.true)
-
-pub loop-i-preserved : goal.loop-i-preserved
-loop-i-preserved c =
-    let b = c in
-    let a = b.args in (
-      omega arith,
-      c.if-most-x.false,
-      b.loop-i.invariant.2 ∙ climb_on a.most a.gap b.loop-i.before a.list.now b.loop-i.i c.loop-i-test.true c.if-x-lt1.false c.if-most-x.false c.if-x-before.false,
-    )
+pub loop-x-preserved : goal.loop-x-preserved
+loop-x-preserved c =
+    let a = c.args in
+    let w = c.loop-x in
+    (c.if-most-x.false, w.invariant.1 ∙ climb_on a.most a.gap w.before a.list.now w.x-index c.loop-x-test.true c.if-x-lt1.false c.if-most-x.false c.if-x-before.false)
 
 pub returns : goal.returns
 returns c =
-    let b = c in
-    let a = b.args in
-    sym (b.loop-i.invariant.2 ∙ climb_end a.most a.gap b.loop-i.before a.list.now b.loop-i.i c.loop-i-test.false)
+    let a = c.args in
+    let w = c.loop-x in
+    sym (w.invariant.1 ∙ climb_end a.most a.gap w.before a.list.now w.x-index c.loop-x-test.false)

@@ -1,67 +1,42 @@
--- `full_load` is the sum of rule 7: what is summed so far and the sum from `i` on make the whole, and each term is at most 10 ^ 15.
-use mathlib.Core.Path.{ap}
-use Prim.Native.Nat.{◌<◌}
-use native.Mathlib.Omega.{arith}
+-- `full_load` is the sum of rule 7: what is summed so far and the sum of the pairs left make the whole, and each term is at most 10 ^ 15.
+use mathlib.Core.Path.{◌≡◌, ap}
+use mathlib.Core.Logic.{inl, inr}
 use lib.ListN.{length}
+use native.Mathlib.Omega.{arith}
 use Rattle.units.specs.Units.{cycles}
 use Rattle.admission.specs.Parts.{full_load_of}
-use Rattle.admission.proofs.Sums.{full_on, full_end, period_pos, full_term}
+use Rattle.admission.proofs.Sums.{full_none, period_pos, full_term, full_pair, fewer, summable_rest}
 use Rattle.admission.proofs.lists.full_load.Goals as goal
 
-pub loop-i-init : goal.loop-i-init
-loop-i-init c = (omega arith, omega arith, omega arith)
-
-pub offset_bounds-reserves-i : goal.offset_bounds-reserves-i
-offset_bounds-reserves-i c = omega (arith, c.requires.few)
-
-pub bounds-reserves-i : goal.bounds-reserves-i
-bounds-reserves-i c = omega arith
-
 pub nonzero_div-sum : goal.nonzero_div-sum
-nonzero_div-sum c =
-    let at = c in
-    let a = at.args in
-    let w = at.loop-i in
-    let h = c.loop-i-test.true in
-    let s = at.requires in
-    period_pos a.great a.periods.now a.reserves.now s w.i h
+nonzero_div-sum c = let pair = c.in-Some.ensures.steps in period_pos _ pair.0 pair.1 c.loop-period.invariant.summable
 
 pub overflow_mul-sum : goal.overflow_mul-sum
 overflow_mul-sum c =
-    let at = c in
-    let a = at.args in
-    let w = at.loop-i in
-    let h = c.loop-i-test.true in
-    let s = at.requires in
-    omega (arith, full_term a.great a.periods.now a.reserves.now s w.i h)
+    let pair = c.in-Some.ensures.steps in
+    omega (arith, full_term c.args.great pair.0 pair.1 c.loop-period.invariant.summable)
 
 pub overflow_add-sum : goal.overflow_add-sum
 overflow_add-sum c =
-    let at = c in
-    let a = at.args in
-    let w = at.loop-i in
-    let h = c.loop-i-test.true in
-    let s = at.requires in
-    omega (arith, s.few, full_term a.great a.periods.now a.reserves.now s w.i h)
+    let pair = c.in-Some.ensures.steps in
+    let w = c.loop-period.invariant in
+    omega (arith, w.room, fewer c.args.great pair.0 pair.1 w.summable, full_term c.args.great pair.0 pair.1 w.summable)
 
-pub loop-i-preserved : goal.loop-i-preserved
-loop-i-preserved c =
-    let at = c in
-    let a = at.args in
-    let w = at.loop-i in
-    let h = c.loop-i-test.true in
-    let s = at.requires in
-    let k : w.i < length a.reserves.now = omega (arith, s.paired) in (
-      omega arith,
-      omega (arith, full_term a.great a.periods.now a.reserves.now s w.i h),
-      omega (arith, w.invariant.2, full_on a.great a.periods.now a.reserves.now w.i h k),
-    )
+pub loop-period-preserved : goal.loop-period-preserved
+loop-period-preserved c =
+    let pair = c.in-Some.ensures.steps in
+    let w = c.loop-period.invariant in
+    record {
+      summable = summable_rest _ pair.0 pair.1 w.summable;
+      room = omega (arith, w.room, fewer c.args.great pair.0 pair.1 w.summable, full_term c.args.great pair.0 pair.1 w.summable);
+      summed = omega (arith, w.summed, full_pair c.args.great pair.0 pair.1 w.summable);
+    }
 
 pub returns : goal.returns
 unfolding full_load_of
 returns c =
-    let at = c in
-    let a = at.args in
-    let w = at.loop-i in
-    let s = at.requires in
-    ap cycles (omega (arith, w.invariant.2, full_end a.great a.periods.now a.reserves.now w.i c.loop-i-test.false (omega (arith, s.paired))))
+    let it = c.loop-period.period-iterator in
+    let w = c.loop-period.invariant in
+    let none : length it.a.rest.now ≡ 0 =
+    elim c.in-None.ensures.steps [ inl (x, e) ↦ e.0 | inr (x, e) ↦ omega (arith, w.summable.paired, e.0) ] in
+    ap cycles (omega (arith, w.summed, full_none c.args.great it.a.rest.now it.b.rest.now none (omega (arith, w.summable.paired))))

@@ -5,45 +5,28 @@ use Rattle.rules.specs.Counting.{energy_sum}
 use Rattle.governor.proofs.CountLaws.{costs, sum_end, once_fits, twice_fits, sum_fits, sum_turn}
 use Rattle.governor.proofs.counts.energy_of.Goals as goal
 
-pub loop-i-init : goal.loop-i-init
-loop-i-init c = (omega arith, omega arith)
-
-pub bounds-counts-i : goal.bounds-counts-i
-bounds-counts-i c = omega (arith, c.requires.listed, c.loop-i-test.true)
-
-pub offset_bounds-volts-i : goal.offset_bounds-volts-i
-offset_bounds-volts-i c = omega arith
-
-pub bounds-volts-i : goal.bounds-volts-i
-bounds-volts-i c = omega arith
-
 pub overflow_mul-sum : goal.overflow_mul-sum
 unfolding energy_sum count_at volts_at
 overflow_mul-sum c =
-    once_fits c.args.tally.counts c.args.ladder.volts c.args.ladder.count c.loop-i.sum c.loop-i.i c.loop-i-test.true c.loop-i.invariant.1 c.requires.fits
+    once_fits c.args.tally.now.counts c.args.ladder.now.volts c.args.ladder.now.count c.loop-i.sum c.loop-i.i c.loop-i-test.true c.loop-i.invariant c.requires.fits
 
 pub overflow_mul-sum-in-loop-i : goal.overflow_mul-sum-in-loop-i
 unfolding energy_sum count_at volts_at
 overflow_mul-sum-in-loop-i c =
-    twice_fits c.args.tally.counts c.args.ladder.volts c.args.ladder.count c.loop-i.sum c.loop-i.i c.loop-i-test.true c.loop-i.invariant.1 c.requires.fits
+    twice_fits c.args.tally.now.counts c.args.ladder.now.volts c.args.ladder.now.count c.loop-i.sum c.loop-i.i c.loop-i-test.true c.loop-i.invariant c.requires.fits
 
 pub overflow_add-sum : goal.overflow_add-sum
 unfolding energy_sum count_at volts_at
 overflow_add-sum c =
-    sum_fits c.args.tally.counts c.args.ladder.volts c.args.ladder.count c.loop-i.sum c.loop-i.i c.loop-i-test.true c.loop-i.invariant.1 c.requires.fits
-
-pub loop-i-smaller : goal.loop-i-smaller
-loop-i-smaller c = omega arith
+    sum_fits c.args.tally.now.counts c.args.ladder.now.volts c.args.ladder.now.count c.loop-i.sum c.loop-i.i c.loop-i-test.true c.loop-i.invariant c.requires.fits
 
 pub loop-i-preserved : goal.loop-i-preserved
 unfolding energy_sum count_at volts_at
-loop-i-preserved c = (
-  omega arith,
-  sum_turn c.args.tally.counts c.args.ladder.volts c.args.ladder.count c.loop-i.sum c.loop-i.i c.loop-i-test.true c.loop-i.invariant.1 c.requires.fits,
-)
+loop-i-preserved c =
+    sum_turn c.args.tally.now.counts c.args.ladder.now.volts c.args.ladder.now.count c.loop-i.sum c.loop-i.i c.loop-i-test.true c.loop-i.invariant c.requires.fits
 
 pub returns : goal.returns
 unfolding energy_sum count_at volts_at
-returns c = let a = c.args in
-    let end = sum_end (costs a.tally.counts a.ladder.volts) a.ladder.count c.loop-i.i c.loop-i-test.false in
-    omega (arith, c.loop-i.invariant.1, end)
+returns c =
+    let end = sum_end (costs c.args.tally.now.counts c.args.ladder.now.volts) c.args.ladder.now.count c.loop-i.i c.loop-i-test.false in
+    omega (arith, c.loop-i.invariant, end)

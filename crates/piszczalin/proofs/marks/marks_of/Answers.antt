@@ -18,7 +18,7 @@ loop-i-preserved c =
     let over = c.args.over in
     let long : length over ≡ 16 = search rules in
     let b = get_or over w.i false in
-    (search rules, ap (λ x. turned mark_of over (set w.marks w.i x) (w.i + 1)) (byte_mark b) ∙ turned_on mark_of over w.marks w.i false (omega arith) (omega arith) ∙ w.invariant.1)
+    (search rules, ap (λ x. turned mark_of over (set w.marks w.i x) (w.i + 1)) (c.from.ensures ∙ byte_mark b) ∙ turned_on mark_of over w.marks w.i false (omega arith) (omega arith) ∙ w.invariant.1)
 
 pub returns : goal.returns
 returns c =

@@ -1,19 +1,15 @@
--- `runs_on` is the second bullet: its three returns are the three ways that what is left and the reserve compare.
-use native.Mathlib.Omega.{arith}
-use Rattle.settlement.proofs.Bullets.{past_reserve, all_given, used_up}
+-- `runs_on` is the second bullet as written.
+use Rattle.std.proofs.Common.{ap, ◌+◌, ◌∙◌, ℕ, min}
+use lib.Dec.{eqb}
+use Rattle.units.specs.Units.{cycles}
+use Rattle.settlement.specs.declared.shares.Share.{Share}
+use Rattle.rules.specs.Settlement.{remaining, uses_up}
+use Rattle.settlement.specs.Parts.{runs_on}
 use Rattle.settlement.proofs.shares.runs_on.Goals as goal
 
-pub returns-then-most-ran : goal.returns-then-most-ran
-returns-then-most-ran c =
-    let a = c.args in
-    past_reserve a.left a.job (omega arith)
-
-pub returns-then-rest-remaining : goal.returns-then-rest-remaining
-returns-then-rest-remaining c =
-    let a = c.args in
-    all_given a.left a.job (omega arith) (omega arith)
-
 pub returns : goal.returns
+unfolding runs_on remaining uses_up
 returns c =
-    let a = c.args in
-    used_up a.left a.job (omega arith) (omega arith)
+    let j = c.args.job in
+    let share : ℕ → Share = λ given. record { given = cycles given; over = eqb (j.run.0 + given) j.reserve.0; cut = eqb (j.run.0 + given) j.reserve.0 } in
+    ap share (c.min-least.ensures ∙ ap (min c.args.left.0) c.saturating_sub.ensures)

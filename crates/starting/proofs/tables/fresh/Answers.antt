@@ -1,9 +1,12 @@
--- `fresh` is the table at tick 0: both sides compute to the same arrays.
-use mathlib.Core.Path.{refl}
-use Rattle.rules.specs.Words.{up_to}
-use Rattle.rules.specs.Calls.{fresh_jobs, fresh_tally, fresh_state}
+-- `fresh` is the all-zero state with its table.
+use mathlib.Core.Path.{ap}
+use Rattle.rules.specs.declared.State.{State}
+use Rattle.rules.specs.Calls.{fresh_state, zero_state}
+use Rattle.rules.proofs.Zero.{default_zero}
 use Rattle.starting.proofs.tables.fresh.Goals as goal
 
 pub returns : goal.returns
-unfolding fresh_state fresh_jobs fresh_tally up_to
-returns c = refl
+unfolding fresh_state zero_state
+returns c =
+    let a = c.args in
+    ap (λ (s : State). record s { tasks = a.tasks; ladder = a.ladder }) (default_zero c.default.result c.default.ensures)

@@ -1,6 +1,5 @@
 -- `after` is `after_of`: the counts of `count_tick`, and after `i` turns the first `i` tasks released whose deadline is the new tick.
 use mathlib.Core.Path.{◌≡◌}
-use Prim.Native.Nat.{◌-◌, ◌≤◌}
 use Rattle.rules.specs.declared.Releasing.{Releasing}
 use Rattle.rules.specs.declared.Tally.{Tally}
 use Rattle.stepping.specs.Parts.{released_to}
@@ -9,9 +8,5 @@ use Rattle.stepping.proofs.releasing.after.Given as goal
 
 abbrev pub invariant-loop-i : goal.invariant-loop-i
 invariant-loop-i l =
-    (l.i ≤ l.n)
-    × (◌≡◌ {A = Releasing} (record { jobs = l.jobs; late = l.counted.late }) (released_to l.dues.at l.next.0 l.i (record { jobs = l.initial.jobs; late = l.initial.counted.late })))
-    × (◌≡◌ {A = Tally} l.counted (with_late l.initial.counted l.counted.late))
-
-abbrev pub decreases-loop-i : goal.decreases-loop-i
-decreases-loop-i l = l.n - l.i
+    (◌≡◌ {A = Releasing} (record { jobs = l.jobs; late = l.tally.late }) (released_to l.dues.at l.next.0 l.i (record { jobs = l.initial.jobs; late = l.initial.tally.late })))
+    × (◌≡◌ {A = Tally} l.tally (with_late l.initial.tally l.tally.late))

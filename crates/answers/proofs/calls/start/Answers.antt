@@ -1,0 +1,7 @@
+-- One answer only says what the contract says.
+use mathlib.Core.Path.{sym, ◌∙◌}
+use Rattle.rules.proofs.Answered.{started-one}
+use Rattle.answers.proofs.calls.start.Goals as goal
+
+pub returns : goal.returns
+returns c = started-one _ _ (c.start-first.ensures ∙ sym c.start.ensures)
