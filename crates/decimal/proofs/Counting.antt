@@ -5,10 +5,13 @@ use mathlib.Core.Bool.{true}
 use Prim.Native.Nat.{ℕ, ◌+◌, ◌-◌, ◌*◌, ◌^◌, ◌≤◌, ◌<◌}
 use native.Mathlib.Nat.{le_trans}
 use native.Mathlib.Numerals.{add-one}
+use native.Mathlib.Omega.{arith}
 use borrow.Author.Tests.{lt-ltb, le-ltb}
-use lib.ListN.{length, get_or, drop, drop_of_length-le}
+use lib.ListN.{length, get_or, take, drop, drop_of_length-le}
 use lib.Seq.{drop-cons}
 use Rattle.std.specs.Prelude.{Some, None}
+use Rattle.std.proofs.lemmas.List.{get_or-take}
+use Rattle.std.proofs.lemmas.Grind.{get_or_after_one}
 use Rattle.decimal.specs.Decimal.{is_digit, digits, value_of, fits64, number_of}
 use Rattle.decimal.proofs.Reading.{grows}
 use Rattle.decimal.proofs.Spelling.{digit_is, digits_cons}
@@ -51,3 +54,22 @@ module _ (ds : List ℕ) (i v : ℕ) where
   all_counted number h fit =
       let same : value_of 0 ds ≡ v = number ∙ ap (value_of v) (drop_of_length-le ds {i = i} h) in
       rw (same, lt-ltb v (2 ^ 64) fit)
+
+module _ (ds : List ℕ) where
+  -- no digits stand for 0
+  pub none_counted : length ds < 1 → number_of ds ≡ Some 0
+  none_counted h = all_counted ds 0 0 refl (omega arith) (omega arith)
+
+  -- the first one stands for itself
+  pub first_counted : (v : ℕ) → v ≡ get_or ds 0 0 - 48 → 1 ≤ length ds → value_of 0 ds ≡ value_of v (drop 1 ds)
+  first_counted v e h = value_ahead ds 0 0 v (omega arith) (omega (arith, e))
+
+  -- and after it come digits only
+  pub only_after : digits ds ≡ ds → 1 ≤ length ds → digits (drop 1 ds) ≡ drop 1 ds
+  only_after only h = only_ahead ds 0 only (omega arith)
+
+  -- each at one place more
+  pub after_first : (i : ℕ) → i < length ds - 1 → get_or (take (length ds - 1) (drop 1 ds)) i 0 ≡ get_or ds (i + 1) 0
+  after_first i h =
+      let next : 1 + i ≡ i + 1 = omega arith in
+      get_or-take (length ds - 1) (drop 1 ds) i 0 h ∙ get_or_after_one ds i 0 ∙ ap (λ (k : ℕ). get_or ds k 0) next

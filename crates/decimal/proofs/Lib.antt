@@ -4,3 +4,4 @@ mod Backwards
 mod Reading
 mod Spelling
 mod Counting
+mod Cut

@@ -13,13 +13,14 @@ pub struct Number {
     pub next: usize,
 }
 
-// The field of digits at a place of a text: no sign, no leading zero except 0 itself, and it fits 64 bits.
+// The field of digits at a place of a text: no sign, no leading zero except 0 itself, and it fits 64 bits. No field has more than 20 digits, so at most 21 are looked at.
 #[tactic(auto, using(crate::proofs::Reading::digits_of_part, crate::proofs::Spelling::digits_twice, crate::proofs::Reading::reads_past))]
 pub fn read(text: &[u8], at: usize) -> Option<Number>
     ensures { result ≡ field_at text.now at }
 {
     let rest = text.get(at..)?;
-    let digits = &rest[..digit_count(rest)];
+    let front = &rest[..rest.len().min(21)];
+    let digits = &front[..digit_count(front)];
     if !no_leading_zero(digits) {
         return None;
     }
@@ -49,14 +50,17 @@ fn digit_count(text: &[u8]) -> usize
     text.iter().take_while(|b| b.is_ascii_digit()).count()
 }
 
-// The number that digits stand for, where it fits 64 bits.
-#[tactic(auto, using(crate::proofs::Counting::digit_ahead, crate::proofs::Counting::only_ahead, crate::proofs::Counting::value_ahead, crate::proofs::Counting::over_counted, crate::proofs::Counting::all_counted))]
+// The number that digits stand for, where it fits 64 bits. The first digit needs no check.
+#[tactic(auto, using(crate::proofs::Counting::none_counted, crate::proofs::Counting::first_counted, crate::proofs::Counting::only_after, crate::proofs::Counting::after_first, crate::proofs::Counting::digit_ahead, crate::proofs::Counting::only_ahead, crate::proofs::Counting::value_ahead, crate::proofs::Counting::over_counted, crate::proofs::Counting::all_counted))]
 fn number_of(digits: &[u8]) -> Option<u64>
     requires { DigitsOnly digits.now }
     ensures { result ≡ number_of digits.now }
 {
-    let mut value: u64 = 0;
-    for digit in digits {
+    let [first, more @ ..] = digits else {
+        return Some(0);
+    };
+    let mut value = u64::from(*first - b'0');
+    for digit in more {
         value = value
             .checked_mul(10)?
             .checked_add(u64::from(*digit - b'0'))?;
