@@ -10,7 +10,8 @@ use Rattle.words.specs.Words.{stands_at}
 use Rattle.lines.specs.declared.EndLine.{EndLine}
 use Rattle.std.specs.Prelude.{Option, None}
 use Rattle.lines.specs.Lines.{end_word, read_end, end_at}
-use Rattle.runfile.specs.Groups.{Ends, more_ends, ends_read, end_good, with_end, ends_from}
+use Rattle.runfile.specs.declared.ends.Ends.{Ends}
+use Rattle.runfile.specs.Groups.{more_ends, ends_read, end_good, with_end, ends_from}
 
 module _ (text : List ℕ) (known at earlier former : ℕ) (sofar : Ends) where
   -- another word: the end lines end there

@@ -16,7 +16,8 @@ use Rattle.lines.specs.Lines.{end_word}
 use Rattle.lines.specs.Spelled.{two_numbers, three_numbers}
 use Rattle.lines.proofs.Spelled.{after_front, word_here, two_read, three_read}
 use Rattle.runfile.specs.declared.Pairs.{Pairs}
-use Rattle.runfile.specs.Groups.{Ends, more_pairs, more_ends, pairs_read, pairs_from, ends_read, end_good, ends_from}
+use Rattle.runfile.specs.declared.ends.Ends.{Ends}
+use Rattle.runfile.specs.Groups.{more_pairs, more_ends, pairs_read, pairs_from, ends_read, end_good, ends_from}
 use Rattle.runfile.specs.Spelled.{TwoLine, ThreeLine, two_lines, end_lines, pairs_laid, ends_laid, twos_fit, threes_fit, ends_rise, ticks_of}
 use Rattle.runfile.proofs.Splits.{both}
 use Rattle.runfile.proofs.Pairing.{group_ends, one_line}

@@ -20,7 +20,8 @@ use Rattle.runfile.specs.declared.End.{End}
 use Rattle.runfile.specs.declared.groups.PairsRead.{PairsRead}
 use Rattle.runfile.specs.declared.groups.EndsRead.{EndsRead}
 use Rattle.runfile.specs.declared.RunFile.{RunFile}
-use Rattle.runfile.specs.Groups.{Ends, most_task_lines, most_speed_lines, most_end_lines, no_pairs, no_ends, pairs_from, ends_from}
+use Rattle.runfile.specs.declared.ends.Ends.{Ends}
+use Rattle.runfile.specs.Groups.{most_task_lines, most_speed_lines, most_end_lines, no_pairs, no_ends, pairs_from, ends_from}
 use Rattle.runfile.specs.RunFile.{most_bytes, most_run_ticks, no_run_file, is_last, closed, after_ends, after_speeds, after_tasks, run_file_of}
 use Rattle.runfile.specs.Good.{end_of, GoodPairs, GoodEnds, GoodFile}
 use Rattle.runfile.proofs.Splits.{both}

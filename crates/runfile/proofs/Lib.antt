@@ -9,3 +9,4 @@ pub mod Good
 pub mod FromLines
 pub mod ToLines
 pub mod Spelled
+pub mod EndPlaces

@@ -17,7 +17,8 @@ use Rattle.std.specs.Prelude.{Option, Some, None}
 use Rattle.lines.specs.declared.EndLine.{EndLine}
 use Rattle.lines.specs.Lines.{end_word, end_at}
 use Rattle.runfile.specs.declared.groups.EndsRead.{EndsRead}
-use Rattle.runfile.specs.Groups.{Ends, most_end_lines, no_ends, more_ends, ends_read, end_good, with_end, ends_from}
+use Rattle.runfile.specs.declared.ends.Ends.{Ends}
+use Rattle.runfile.specs.Groups.{most_end_lines, no_ends, more_ends, ends_read, end_good, with_end, ends_from}
 use Rattle.runfile.specs.Good.{Rises, end_of, GoodEnds}
 use Rattle.runfile.proofs.Rising.{good_line}
 

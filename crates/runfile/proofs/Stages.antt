@@ -12,7 +12,8 @@ use Rattle.std.specs.List.{list_all}
 use Rattle.lines.specs.Lines.{task_word, speed_word, read_run, run_at}
 use Rattle.runfile.specs.declared.Pairs.{Pairs}
 use Rattle.runfile.specs.declared.End.{End}
-use Rattle.runfile.specs.Groups.{Ends, most_task_lines, most_speed_lines, most_end_lines, no_pairs, no_ends, pairs_read, pairs_from, ends_read, ends_from}
+use Rattle.runfile.specs.declared.ends.Ends.{Ends}
+use Rattle.runfile.specs.Groups.{most_task_lines, most_speed_lines, most_end_lines, no_pairs, no_ends, pairs_read, pairs_from, ends_read, ends_from}
 use Rattle.runfile.specs.RunFile.{most_bytes, most_run_ticks, no_run_file, is_last, closed, after_ends, after_speeds, after_tasks, run_file_of}
 
 -- more bytes than a run file may have

@@ -19,7 +19,8 @@ use Rattle.lines.proofs.Unread.{word_front, two_front, three_front}
 use Rattle.runfile.specs.declared.Pairs.{Pairs}
 use Rattle.runfile.specs.declared.groups.PairsRead.{PairsRead}
 use Rattle.runfile.specs.declared.groups.EndsRead.{EndsRead}
-use Rattle.runfile.specs.Groups.{Ends, more_pairs, more_ends, pairs_read, with_pair, pairs_from, ends_read, end_good, with_end, ends_from}
+use Rattle.runfile.specs.declared.ends.Ends.{Ends}
+use Rattle.runfile.specs.Groups.{more_pairs, more_ends, pairs_read, with_pair, pairs_from, ends_read, end_good, with_end, ends_from}
 use Rattle.runfile.specs.Spelled.{TwoLine, ThreeLine, two_lines, end_lines, pairs_laid, ends_laid, twos_fit, threes_fit, ends_rise}
 
 -- a number below 2^64 fits

@@ -1,8 +1,8 @@
 -- "Run files": the groups of lines, each line taken to what was read before it.
-use Rattle.std.specs.Prelude.{ℕ, zero, suc, ◌+◌, Bool, cond, ◌&&◌, ◌||◌, List, eqb, ltb, leb, length, ◌++◌, [], ◌∷◌, Option, Some, None}
+use Rattle.std.specs.Prelude.{ℕ, zero, suc, ◌+◌, ◌-◌, Bool, cond, ◌&&◌, ◌||◌, List, eqb, ltb, leb, length, replicate, ◌++◌, [], ◌∷◌, Option, Some, None}
 use Rattle.words.specs.Words.{stands_at}
 use Rattle.runfile.specs.declared.Pairs.{Pairs}
-use Rattle.arrayvec.specs.ArrayVec.{ArrayVec}
+use Rattle.runfile.specs.declared.ends.Ends.{Ends}
 use Rattle.units.specs.Units.{ticks, cycles}
 use Rattle.runfile.specs.declared.End.{End}
 use Rattle.runfile.specs.declared.groups.PairsRead.{PairsRead}
@@ -32,8 +32,9 @@ more_pairs p first second =
       seconds = record { items = p.seconds.items ++ (second ∷ []) };
     }
 
-abbrev pub Ends : Type 0
-Ends = ArrayVec End
+-- the places that are free after so many end lines, each all zero
+unfoldable pub free_ends : ℕ → List End
+free_ends count = replicate (most_end_lines - count) (record { tick = ticks 0; task = 0; cycles = cycles 0 })
 
 unfoldable pub no_ends : Ends
 no_ends = record { items = [] }

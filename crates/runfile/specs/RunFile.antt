@@ -10,7 +10,8 @@ use Rattle.runfile.specs.declared.groups.EndsRead.{EndsRead}
 use Rattle.runfile.specs.declared.End.{End}
 use Rattle.runfile.specs.declared.RunFile.{RunFile}
 use Rattle.lines.specs.Lines.{task_word, speed_word, run_at}
-use Rattle.runfile.specs.Groups.{Ends, most_task_lines, most_speed_lines, most_end_lines, no_pairs, no_ends, pairs_from, ends_from}
+use Rattle.runfile.specs.declared.ends.Ends.{Ends}
+use Rattle.runfile.specs.Groups.{most_task_lines, most_speed_lines, most_end_lines, no_pairs, no_ends, pairs_from, ends_from}
 
 -- "At most 65,536 bytes", "ticks, 0 to 10,000"
 abbrev pub most_bytes : ℕ

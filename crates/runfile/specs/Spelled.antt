@@ -7,7 +7,8 @@ use Rattle.lines.specs.Lines.{task_word, speed_word, end_word}
 use Rattle.lines.specs.Spelled.{LineBreak, LastBreak, two_numbers, three_numbers, run_line}
 use Rattle.runfile.specs.declared.Pairs.{Pairs}
 use Rattle.runfile.specs.declared.RunFile.{RunFile}
-use Rattle.runfile.specs.Groups.{Ends, most_task_lines, most_speed_lines, most_end_lines, no_pairs, more_pairs, no_ends, more_ends, end_good}
+use Rattle.runfile.specs.declared.ends.Ends.{Ends}
+use Rattle.runfile.specs.Groups.{most_task_lines, most_speed_lines, most_end_lines, no_pairs, more_pairs, no_ends, more_ends, end_good}
 use Rattle.runfile.specs.RunFile.{most_bytes, most_run_ticks}
 
 -- a task line (period, reserve) or a speed line (speed, volts), and an end line, each with its line's end

@@ -3,7 +3,7 @@ ghost use Rattle.std.specs.Prelude.{◌≡◌, ◌≤◌, ltb};
 ghost use Rattle.runfile.specs.Groups.{most_task_lines, most_end_lines, no_pairs, no_ends, pairs_from, ends_from, end_good};
 ghost use Rattle.std.specs.List.{list_all};
 
-use crate::{End, Pairs};
+use crate::{End, Ends, Pairs};
 use arrayvec::ArrayVec;
 use lines::EndLine;
 use units::Ticks;
@@ -18,7 +18,7 @@ pub(crate) struct PairsRead {
 // The end lines and the place of the line after them.
 #[derive(Drop)]
 pub(crate) struct EndsRead {
-    pub(crate) ends: ArrayVec<End, 1000>,
+    pub(crate) ends: Ends,
     pub(crate) next: usize,
 }
 
@@ -47,7 +47,7 @@ pub(crate) fn pairs(text: &[u8], at: usize, word: &[u8], most: usize) -> Option<
 pub(crate) fn ends(text: &[u8], at: usize, known: usize) -> Option<EndsRead>
     ensures { result ≡ ends_from text.now known most_end_lines at 0 0 no_ends }
 {
-    let mut ends = ArrayVec::new();
+    let mut ends = Ends::new();
     let mut next = at;
     let mut before = EndLine::default();
     while words::stands(text, next, b"end,") {
@@ -58,7 +58,7 @@ pub(crate) fn ends(text: &[u8], at: usize, known: usize) -> Option<EndsRead>
         if !good_end(known, before, line) {
             return None;
         }
-        ends.push(End {
+        ends.add(End {
             tick: line.tick,
             task: line.task,
             cycles: line.cycles,

@@ -1,12 +1,14 @@
 // The run file's reader: from any bytes to the run file that they are, or to 14.
 #![tactic(auto)]
 
+mod ends;
 mod groups;
 
 ghost use Rattle.std.specs.Prelude.{◌≡◌};
 ghost use Rattle.runfile.specs.RunFile.{run_file_of};
 
 use arrayvec::ArrayVec;
+pub use ends::Ends;
 use groups::{EndsRead, PairsRead};
 use lines::RunLine;
 use refusals::Refusal;
@@ -32,7 +34,7 @@ pub struct End {
 pub struct RunFile {
     pub tasks: Pairs,
     pub speeds: Pairs,
-    pub ends: ArrayVec<End, 1000>,
+    pub ends: Ends,
     pub ticks: Ticks,
 }
 

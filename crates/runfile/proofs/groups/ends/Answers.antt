@@ -55,13 +55,13 @@ loop-before-preserved c =
     let a = c.args in
     let s = c.loop-before in
     let long = c.len.ensures.value in
-    let more = c.push.ensures in
+    let more = c.add.ensures in
     record {
       few = omega arith;
       rest = s.invariant.rest
           ∙ end_taken a.text.now a.known s.next s.before.tick.0 s.before.task s.ends (sym c.loop-before-test.ensures) c.in_ok-line.ensures refl most_end_lines (length s.ends.items) (omega arith) c.if-not-good_end.ensures refl
           ∙ ap (λ (k : ℕ). ends_from a.text.now a.known k c.in_ok-line.line.next c.in_ok-line.line.tick.0 c.in_ok-line.line.task (more_ends s.ends c.in_ok-line.line.tick.0 c.in_ok-line.line.task c.in_ok-line.line.cycles.0)) (omega arith)
-          ∙ ap (λ (xs : List End). ends_from a.text.now a.known (most_end_lines - length c.push.new.self.items) c.in_ok-line.line.next c.in_ok-line.line.tick.0 c.in_ok-line.line.task (record { items = xs })) (sym more.items);
+          ∙ ap (λ (xs : List End). ends_from a.text.now a.known (most_end_lines - length c.add.new.self.items) c.in_ok-line.line.next c.in_ok-line.line.tick.0 c.in_ok-line.line.task (record { items = xs })) (sym more.items);
       place = omega arith;
     }
 
