@@ -2,7 +2,7 @@
 #![tactic(auto)]
 
 use std::io;
-use std::io::{ErrorKind, Read, Write};
+use std::io::{Read, Write};
 
 // At most 100,000 run files; the end of the input, or a run file that is cut short, ends it.
 fn main(rt: HostRuntime) -> io::Result<()> {
@@ -57,10 +57,15 @@ fn next_length<R: Read>(input: &mut R) -> io::Result<Option<usize>> {
 }
 
 // Reads until the buffer is full, or the input ends: whether it is full.
+// Stays: a read that a signal interrupts ends the programs with an error, here as in `bench`; read_exact tries again.
 fn read_full<R: Read>(input: &mut R, buf: &mut [u8]) -> io::Result<bool> {
-    match input.read_exact(buf) {
-        Ok(()) => Ok(true),
-        Err(error) if error.kind() == ErrorKind::UnexpectedEof => Ok(false),
-        Err(error) => Err(error),
+    let mut done = 0;
+    while done < buf.len() {
+        let n = input.read(&mut buf[done..])?;
+        if n == 0 {
+            return Ok(false);
+        }
+        done += n;
     }
+    Ok(true)
 }
