@@ -11,7 +11,7 @@ use Rattle.rules.specs.State.{state_from}
 use Rattle.rules.specs.Calls.{grants_of, ticked_by}
 use Rattle.stepping.specs.declared.Stepped.{Stepped}
 use Rattle.stepping.specs.Stepped.{stepped_by, stepped_of}
-use Rattle.stepping.proofs.TickLaws.{tick_from, tick_kept}
+use Rattle.stepping.proofs.TickLaws.{tick_by}
 use Rattle.piszczalin.specs.declared.PlainState.{PlainState}
 use Rattle.piszczalin.specs.Plain.{marks_good, state_of, plain_state_of}
 use Rattle.piszczalin.specs.Parts.{jobs_of_plain, plain_after, plain_answer}
@@ -25,12 +25,12 @@ module _ (s : PlainState) where
     unfolding plain_ticked ticked_by
     kept_plain r h =
         ap (λ (x : PlainState). record { number = number_of r; state = x }) (sym (plain_back s good))
-        ∙ ap plain_ticked (tick_kept (state_of s) report places r h)
+        ∙ ap plain_ticked (tick_by (state_of s) report places (Err r) h)
         ∙ tick_good s good report places
 
     next_plain : (step : Stepped) → stepped_by (state_of s) (Ok step) ≡ stepped_of (state_of s) report places → plain_answer 0 (plain_after s step) ≡ plain_tick s report places
     unfolding plain_ticked ticked_by plain_state_of state_of
-    next_plain step h = ap plain_ticked (tick_from (state_of s) report places step h) ∙ tick_good s good report places
+    next_plain step h = ap plain_ticked (tick_by (state_of s) report places (Ok step) h) ∙ tick_good s good report places
 
     module _ (js : Jobs) (is : js ≡ jobs_of_plain s.jobs) where
       pub kept_from : (answer : Result Stepped Refusal) (r : Refusal) → answer ≡ Err r → stepped_by (state_from s.done s.tasks js s.ladder s.tally) answer ≡ stepped_of (state_from s.done s.tasks js s.ladder s.tally) report places → record { number = number_of r; state = s } ≡ plain_tick s report places

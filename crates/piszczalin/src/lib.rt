@@ -95,10 +95,12 @@ pub fn piszczalin_tick(state: PlainState, report: &[u64], grants: &mut [u64]) ->
     ensures { (result ≡ plain_tick state report.now (length grants.old))
         × (grants.new ≡ plain_grants state report.now grants.old) }
 {
-    let mut ticked = PlainTicked { number: 0, state };
-    let answer = ticks::step(&mut ticked.state, report, grants);
-    ticked.number = answers::number(answer);
-    ticked
+    let mut state = state;
+    let answer = ticks::step(&mut state, report, grants);
+    PlainTicked {
+        number: answers::number(answer),
+        state,
+    }
 }
 
 // energy: from any state to the sum over speeds of count x volts x volts; refused (9), 0.

@@ -85,7 +85,7 @@ fn overs(marks: [u8; 16]) -> [bool; 16]
 }
 
 // The mark of each job.
-fn marks_of(over: [bool; 16]) -> [u8; 16]
+pub(crate) fn marks_of(over: [bool; 16]) -> [u8; 16]
     ensures { result ≡ map mark_of over }
 {
     let mut marks = [0; 16];

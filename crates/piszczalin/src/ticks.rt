@@ -3,7 +3,7 @@ ghost use Rattle.std.specs.Prelude.{◌≡◌, length};
 ghost use Rattle.piszczalin.specs.Calls.{plain_tick, plain_grants};
 ghost use Rattle.piszczalin.specs.Parts.{number_by, plain_after, plain_answer};
 
-use crate::{PlainJobs, PlainState, marks};
+use crate::{PlainState, marks};
 use refusals::Refusal;
 use stepping::Stepped;
 
@@ -41,8 +41,8 @@ pub(crate) fn step(
 fn change(state: &mut PlainState, step: &Stepped)
     ensures { state.new ≡ plain_after state.old step.now }
 {
-    let jobs = PlainJobs::from(step.jobs);
     state.done = step.done;
-    state.jobs = jobs;
+    state.jobs.run = step.jobs.run;
+    state.jobs.over = marks::marks_of(step.jobs.over);
     state.tally = step.tally;
 }

@@ -12,8 +12,8 @@ pub(crate) fn entry_at(report: &[u64], i: usize) -> u64
 }
 
 // Rule 4: whether the entry is 0 of each of the first jobs that is over already, or still waits when nothing is left.
-pub(crate) fn rest_zero(jobs: Jobs, ready: Ready, count: usize, report: &[u64]) -> bool
-    ensures { result ≡ rest_zero jobs ready count report.now }
+pub(crate) fn rest_zero(jobs: &Jobs, ready: &Ready, count: usize, report: &[u64]) -> bool
+    ensures { result ≡ rest_zero jobs.now ready.now count report.now }
 {
     (0..count.min(16)).all(|i| !(jobs.over[i] || ready.at[i]) || entry_at(report, i) == 0)
 }

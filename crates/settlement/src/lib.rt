@@ -56,10 +56,10 @@ pub fn settle(
         left = Cycles(left.0 - share.given.0);
         cut += u64::from(share.cut);
     }
-    if !entries::rest_zero(jobs, ready, tasks.count, report) {
+    if !entries::rest_zero(&jobs, &ready, tasks.count, report) {
         return None;
     }
-    pay(given, grants);
+    pay(&given, grants);
     Some(Settled {
         jobs: after,
         left,
@@ -68,8 +68,8 @@ pub fn settle(
 }
 
 // Each job's cycles written to the places, of at most 16, that the grants list has.
-fn pay(given: [Cycles; 16], grants: &mut [u64])
-    ensures { grants.new ≡ paid given grants.old }
+fn pay(given: &[Cycles; 16], grants: &mut [u64])
+    ensures { grants.new ≡ paid given.now grants.old }
 {
     for i in 0..grants.len().min(16) {
         grants[i] = given[i].0;

@@ -1,4 +1,4 @@
--- The rows 9 to 11 of a tick: where one applies its number is tick's own, and where none does, what they ask.
+-- The rows 9 to 12 of a tick: where one of 9 to 11 applies its number is tick's own, and where none does, what they ask; and row 12 by the place that was found.
 use mathlib.Core.Path.{◌≡◌, refl, ap}
 use mathlib.Core.Bool.{Bool, true, false, cond, not, ◌&&◌}
 use mathlib.Core.List.{List, [], ◌∷◌}
@@ -6,11 +6,11 @@ use Prim.Native.Nat.{ℕ, ◌<◌}
 use lib.Dec.{eqb}
 use lib.ListN.{length}
 use borrow.Author.Tests.{eqb-true, leb-false}
-use Rattle.std.proofs.Common.{Result, Ok, Err}
+use Rattle.std.proofs.Common.{Result, Ok, Err, Option, Some, None}
 use Rattle.units.specs.Units.{cycles}
 use Rattle.units.specs.declared.Cycles.{Cycles}
 use Rattle.refusals.specs.declared.Refusal.{Refusal}
-use Rattle.refusals.specs.declared.Refusal.TheVariants.{Unsound, RunDone, Length}
+use Rattle.refusals.specs.declared.Refusal.TheVariants.{Unsound, RunDone, Length, NoSpeed}
 use Rattle.refusals.specs.Refusals.{number_of}
 use Rattle.rules.specs.declared.State.{State}
 use Rattle.rules.specs.Words.{first_of}
@@ -19,7 +19,7 @@ use Rattle.rules.specs.Choice.{load_of, speed_of, none_carries}
 use Rattle.rules.specs.Settlement.{keeps_rule4}
 use Rattle.rules.specs.Numbers.{sound, all_done, tick_number}
 use Rattle.rules.proofs.Lists.{both_left, both_right}
-use Rattle.stepping.specs.Parts.{row_load}
+use Rattle.stepping.specs.Parts.{row_load, row_place}
 
 -- the rows by their tests
 rows : Bool → Bool → Bool → Cycles → Result Cycles Refusal
@@ -39,6 +39,18 @@ module _ (load : Cycles) where
   rows_passed true true c x e = absurd cc
   rows_passed true false false x e = absurd cc
   rows_passed true false true x e = (refl, refl, refl, cc)
+
+-- row 12 applies where no place was found, and its number is 12
+pub row_12 : (found : Option ℕ) (r : Refusal) → row_place found ≡ Err r → (found ≡ None) × (number_of r ≡ 12)
+unfolding row_place
+row_12 None r e = (refl, ap number_of (let f : r ≡ NoSpeed = cc in f))
+row_12 (Some i) r e = absurd cc
+
+-- else the place is the one that was found
+pub row_found : (found : Option ℕ) (place : ℕ) → row_place found ≡ Ok place → found ≡ Some place
+unfolding row_place
+row_found None place e = absurd cc
+row_found (Some i) place e = ap Some (let f : i ≡ place = cc in f)
 
 module _ (s : State) (report : List ℕ) (granted : ℕ) where
   lengths : Bool

@@ -129,20 +129,26 @@ stepped_is s report places place granted r e p told g = rw (e, p, told, g)
 abbrev pub whole_of : State → Stepped → State
 whole_of s r = state_from r.done s.tasks r.jobs s.ladder r.tally
 
-abbrev together : State → Change → Ticked
+abbrev pub together : State → Change → Ticked
 together s c = record { number = c.number; state = state_from c.done s.tasks c.jobs s.ladder c.tally }
 
-pub tick_from : (s : State) (report : List ℕ) (places : ℕ) (r : Stepped) → stepped_by s (Ok r) ≡ stepped_of s report places → ticked_by s (Ok (whole_of s r)) ≡ tick_of s report places
-unfolding stepped_by stepped_of ticked_by tick_of next_of
-tick_from s report places r e = go (eqb (tick_number s report places) 0) refl
+pub tick_from : (s : State) (report : List ℕ) (places : ℕ) (c : Change) → c ≡ stepped_of s report places → together s c ≡ tick_of s report places
+unfolding stepped_of tick_of next_of
+tick_from s report places c e = go (eqb (tick_number s report places) 0) refl
   where
-    go : (b : Bool) → eqb (tick_number s report places) 0 ≡ b → ticked_by s (Ok (whole_of s r)) ≡ tick_of s report places
-    go true t = ap (together s) e ∙ rw t refl
-    go false t = ap (together s) e ∙ rw t refl
+    go : (b : Bool) → eqb (tick_number s report places) 0 ≡ b → together s c ≡ tick_of s report places
+    go true t = rw (e, t) refl
+    go false t = rw (e, t) refl
 
-pub tick_kept : (s : State) (report : List ℕ) (places : ℕ) (r : Refusal) → stepped_by s (Err r) ≡ stepped_of s report places → ticked_by s (Err r) ≡ tick_of s report places
-unfolding stepped_by stepped_of tick_of
-tick_kept s report places r e = tick-err s report places r (sym (ap (λ (c : Change). c.number) e))
+-- so it is of each answer of step, a refused one too
+abbrev pub whole_by : State → Result Stepped Refusal → Result State Refusal
+whole_by s (Ok r) = Ok (whole_of s r)
+whole_by s (Err r) = Err r
+
+pub tick_by : (s : State) (report : List ℕ) (places : ℕ) (r : Result Stepped Refusal) → stepped_by s r ≡ stepped_of s report places → ticked_by s (whole_by s r) ≡ tick_of s report places
+unfolding stepped_by ticked_by
+tick_by s report places (Ok r) e = tick_from s report places _ e
+tick_by s report places (Err r) e = tick_from s report places _ e
 
 -- what the crates below answer for a sound state
 module _ (s : State) (f : Sound s) where

@@ -1,5 +1,5 @@
 -- What the private functions of a tick ask and answer: nothing here is part of what this crate promises to callers.
-use Rattle.std.specs.Prelude.{ℕ, zero, suc, ◌+◌, ◌%◌, ◌≤◌, ◌<◌, ◌≡◌, true, false, cond, not, ◌&&◌, List, Result, Ok, Err, eqb, length, get_or, set}
+use Rattle.std.specs.Prelude.{ℕ, zero, suc, ◌+◌, ◌%◌, ◌≤◌, ◌<◌, ◌≡◌, true, false, cond, not, ◌&&◌, List, Option, Some, None, Result, Ok, Err, eqb, length, get_or, set}
 use Rattle.units.specs.Units.{ticks, cycles, most_count}
 use Rattle.units.specs.declared.Ticks.{Ticks}
 use Rattle.units.specs.declared.Cycles.{Cycles}
@@ -12,7 +12,7 @@ use Rattle.rules.specs.declared.State.{State}
 use Rattle.rules.specs.Limits.{most_tasks, most_speeds, most_ticks}
 use Rattle.rules.specs.State.{period_at, count_at, put_at}
 use Rattle.refusals.specs.declared.Refusal.{Refusal}
-use Rattle.refusals.specs.declared.Refusal.TheVariants.{Unsound, RunDone, Length}
+use Rattle.refusals.specs.declared.Refusal.TheVariants.{Unsound, RunDone, Length, NoSpeed}
 use Rattle.rules.specs.Choice.{load_of, speed_place}
 use Rattle.rules.specs.Counting.{releases}
 use Rattle.rules.specs.Numbers.{sound, all_done}
@@ -25,6 +25,11 @@ row_load s reported granted =
     cond (not (sound s)) (Err Unsound)
     (cond (all_done s) (Err RunDone)
     (cond (not (eqb reported s.tasks.count && eqb granted s.tasks.count)) (Err Length) (Ok (cycles (load_of s)))))
+
+-- the place of the speed that was found, or the row 12 of a tick: no listed speed carries the load
+unfoldable pub row_place : Option ℕ → Result ℕ Refusal
+row_place (Some place) = Ok place
+row_place None = Err NoSpeed
 
 -- rule 5's sums stay in their range
 pub record Countable (tally : Tally) (place : ℕ) (speed : Speed) (left : Cycles) (cut : ℕ) : Type 0 where

@@ -40,8 +40,8 @@ pub fn step(
         × (grants.new ≡ grants_of (state_from done tasks.now jobs.now ladder.now tally.now) report.now grants.old) }
 {
     let load = rows::load(done, tasks, jobs, ladder, tally, report.len(), grants.len())?;
-    let place = choosing::lowest_place(*ladder, tasks.great, load);
-    let place = place.ok_or(Refusal::NoSpeed)?;
+    let found = choosing::lowest_place(*ladder, tasks.great, load);
+    let place = rows::place(found)?;
     step_at(done, tasks, jobs, ladder, tally, place, report, grants)
 }
 

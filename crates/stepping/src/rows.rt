@@ -1,7 +1,7 @@
-// The refusals of a tick before its speed is known.
+// The refusals of a tick before it is settled.
 ghost use Rattle.std.specs.Prelude.{◌≡◌};
 ghost use Rattle.rules.specs.State.{state_from};
-ghost use Rattle.stepping.specs.Parts.{row_load};
+ghost use Rattle.stepping.specs.Parts.{row_load, row_place};
 
 use refusals::Refusal;
 use rules::{Jobs, Ladder, Tally, Tasks};
@@ -32,4 +32,12 @@ pub(crate) fn load(
         return Err(Refusal::Length);
     }
     Ok(load)
+}
+
+// The place of the lowest speed that carries the load; or 12, where none does.
+#[tactic(auto, unfolding(crate::specs::Parts::row_place))]
+pub(crate) fn place(found: Option<usize>) -> Result<usize, Refusal>
+    ensures { result ≡ row_place found }
+{
+    found.ok_or(Refusal::NoSpeed)
 }

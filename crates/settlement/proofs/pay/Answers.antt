@@ -12,8 +12,8 @@ pub loop-i-preserved : goal.loop-i-preserved
 loop-i-preserved c =
     let w = c.loop-i in (
       length-set w.grants w.i _ ∙ w.invariant.0,
-      ap (λ l. set l w.i (get_or c.args.given w.i (cycles 0)).0) w.invariant.1 ∙ written_on c.args.given c.args.grants.now w.i (omega arith),
+      ap (λ l. set l w.i (get_or c.args.given.now w.i (cycles 0)).0) w.invariant.1 ∙ written_on c.args.given.now c.args.grants.now w.i (omega arith),
     )
 
 pub returns : goal.returns
-returns c = c.loop-i.invariant.1 ∙ written_paid c.args.given c.args.grants.now c.loop-i.i (omega arith) (omega arith)
+returns c = c.loop-i.invariant.1 ∙ written_paid c.args.given.now c.args.grants.now c.loop-i.i (omega arith) (omega arith)

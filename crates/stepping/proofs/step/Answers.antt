@@ -3,9 +3,9 @@ use mathlib.Core.Path.{sym, ◌∙◌}
 use lib.ListN.{length}
 use Rattle.std.proofs.lemmas.Result.{err_from_is_err_and}
 use Rattle.rules.proofs.Soundness.{sound_facts}
-use Rattle.stepping.proofs.RowLaws.{row_is, no_row}
+use Rattle.stepping.proofs.RowLaws.{row_is, no_row, row_12, row_found}
 use Rattle.rules.specs.State.{state_from}
-use Rattle.stepping.proofs.TickLaws.{none_or, refused_is, place_found, found_some}
+use Rattle.stepping.proofs.TickLaws.{refused_is, place_found, found_some}
 use Rattle.stepping.proofs.step.Goals as goal
 
 pub returns-in_err-load : goal.returns-in_err-load
@@ -20,8 +20,8 @@ pub returns-in_err-place : goal.returns-in_err-place
 returns-in_err-place c =
     let s = (state_from c.args.done c.args.tasks.now c.args.jobs.now c.args.ladder.now c.args.tally.now) in
     let passed = no_row s c.args.report.now (length c.args.grants.now) _ (sym c.in_ok-load.ensures) in
-    let none = (none_or _ _ _ c.in_err-place.ensures.value).0 in
-    absurd (found_some s (sound_facts s passed.0) _ passed.4 (sym c.lowest_place-place.ensures ∙ none))
+    let none = (row_12 _ _ (sym c.in_err-place.ensures)).0 in
+    absurd (found_some s (sound_facts s passed.0) _ passed.4 (sym c.lowest_place-found.ensures ∙ none))
 
 pub step_at-requires : goal.step_at-requires
 step_at-requires c =
@@ -32,5 +32,5 @@ step_at-requires c =
       goes_on = passed.1;
       reported = passed.2;
       granted = passed.3;
-      lowest = place_found s (sound_facts s passed.0) _ _ passed.4 (sym c.lowest_place-place.ensures ∙ c.in_ok-place.ensures.ok_part);
+      lowest = place_found s (sound_facts s passed.0) _ _ passed.4 (sym c.lowest_place-found.ensures ∙ row_found _ _ (sym c.in_ok-place.ensures));
     }
