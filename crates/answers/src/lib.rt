@@ -3,6 +3,7 @@
 #![tactic(auto)]
 
 mod calls;
+mod conversions;
 mod divisions;
 mod exported;
 mod parts;
